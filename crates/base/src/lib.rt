@@ -1,0 +1,1 @@
+// The choice by a test, and laws of lists that the kit does not have. No code.

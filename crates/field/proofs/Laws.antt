@@ -1,0 +1,124 @@
+-- Laws of little-endian fields, each once over the width: a field of a + b bytes, reading back what was written, bounds.
+use mathlib.Core.Path.{_≡_, refl, sym, ap, _∙_}
+use mathlib.Core.Bool.{Bool, true, false}
+use mathlib.Core.List.{List, [], _∷_, _++_, append-assoc}
+use Prim.Native.Nat.{ℕ, zero, suc, _+_, _*_, _/_, _%_, _^_, _<_, _≤_}
+use native.Mathlib.Omega.{arith}
+use native.Mathlib.Nat.{
+  pow-suc,
+  pow-zero,
+  div-lt-iff-lt-mul,
+  add-zero,
+  add-suc,
+  suc-add,
+  mul-assoc,
+  mul-comm,
+  zero-add,
+  pow-succ',
+  one-le-pow,
+  div-div-eq-div-mul,
+}
+use borrow.Author.Tests.{le-leb, lt-leb}
+use lib.ListN.{length, getD, drop, take}
+use lib.Arith.{mod-mul}
+use lib.Dec.{lit<}
+use lib.Seq.{sets, sets-eq, drop-at, length-take-le}
+use Rattle.field.specs.Field.{le, leBytes, fieldAt, putAt, written}
+use Rattle.field.specs.declared.Put.the-variants as P
+
+-- the first byte, and the rest
+pub le-step : (w : ℕ) (at : ℕ) (s : List ℕ) → le (suc w) (drop at s) ≡ getD s at 0 + 256 * le w (drop (suc at) s)
+unfolding le
+le-step zero zero [] = refl
+le-step (suc w) zero [] = refl
+le-step zero zero (b ∷ bs) = refl
+le-step (suc w) zero (b ∷ bs) = refl
+le-step zero (suc at) [] = refl
+le-step (suc w) (suc at) [] = refl
+le-step zero (suc at) (b ∷ bs) = le-step zero at bs
+le-step (suc w) (suc at) (b ∷ bs) = le-step (suc w) at bs
+
+le-zero : (s : List ℕ) → le zero s ≡ 0
+unfolding le
+le-zero s = refl
+
+-- a field of a + b bytes is one of a bytes and one of b bytes above it
+pub le-split : (a b at : ℕ) (s : List ℕ) → le (a + b) (drop at s) ≡ le a (drop at s) + 256 ^ a * le b (drop (at + a) s)
+le-split zero b at s = rw (zero-add b, add-zero at, le-zero, pow-zero 256) (omega arith)
+le-split (suc a) b at s =
+    rw (suc-add a b, le-step (a + b) at s, le-step a at s, le-split a b (suc at) s, suc-add at a, add-suc at a, pow-suc 256 a)
+    (let L : ℕ = le b (drop (suc (at + a)) s) in
+    let e : 256 ^ a * 256 * L ≡ 256 * (256 ^ a * L) = ap (λ (k : ℕ). k * L) (mul-comm (256 ^ a) 256) ∙ mul-assoc 256 (256 ^ a) L in
+    omega arith)
+
+-- a number that w bytes hold is read back
+pub le-of-bytes : (w v : ℕ) (rest : List ℕ) → v < 256 ^ w → le w (leBytes w v ++ rest) ≡ v
+unfolding le leBytes
+le-of-bytes zero v rest h = omega (arith, pow-zero 256)
+le-of-bytes (suc w) v rest h =
+    let q : v / 256 < 256 ^ w = div-lt-iff-lt-mul (lit< tt) .1 (rw pow-suc at h) in
+    rw (le-of-bytes w (v / 256) rest q) (omega arith)
+
+pub length-leBytes : (w v : ℕ) → length (leBytes w v) ≡ w
+unfolding leBytes
+length-leBytes zero v = refl
+length-leBytes (suc w) v = ap suc (length-leBytes w (v / 256))
+
+-- the bytes of a number of a + b bytes
+pub leBytes-split : (a b v : ℕ) → leBytes (a + b) v ≡ leBytes a v ++ leBytes b (v / 256 ^ a)
+unfolding leBytes
+leBytes-split zero b v = rw zero-add (ap (leBytes b) (omega arith))
+leBytes-split (suc a) b v =
+    rw (suc-add a b, leBytes-split a b (v / 256), pow-succ' 256 a, div-div-eq-div-mul v 256 (256 ^ a))
+
+-- what is written at a place is read back there
+pub read-back : (w v at : ℕ) (d : List ℕ) → at + w ≤ length d → v < 256 ^ w → le w (drop at (sets d at (leBytes w v))) ≡ v
+read-back w v at d h hv =
+    rw (sets-eq (leBytes w v) d at (rw length-leBytes h), append-assoc, drop-at (take at d) _ at (length-take-le at d (omega arith)))
+    (le-of-bytes w v _ hv)
+
+-- four bytes, as code that reads them has them
+pub le4 : (at : ℕ) (s : List ℕ) → le 4 (drop at s) ≡ getD s at 0 + 256 * (getD s (at + 1) 0 + 256 * (getD s (at + 2) 0 + 256 * getD s (at + 3) 0))
+le4 at s =
+    let e1 : at + 1 ≡ suc at = omega arith in
+    let e2 : at + 2 ≡ suc (suc at) = omega arith in
+    let e3 : at + 3 ≡ suc (suc (suc at)) = omega arith in
+    rw (le-step 3 at s, le-step 2 (suc at) s, le-step 1 (suc (suc at)) s, le-step 0 (suc (suc (suc at))) s, le-zero, e1, e2, e3) (omega arith)
+
+pow-pos256 : (w : ℕ) → zero < 256 ^ w
+pow-pos256 w = one-le-pow w 256 (lit< tt)
+
+-- w bytes hold what is left modulo 256 ^ w
+pub leBytes-mod : (w v : ℕ) → leBytes w (v % 256 ^ w) ≡ leBytes w v
+unfolding leBytes
+leBytes-mod zero v = refl
+leBytes-mod (suc w) v =
+    let e : v % 256 ^ suc w ≡ (v / 256 % 256 ^ w) * 256 + v % 256 = rw pow-suc (mod-mul v (pow-pos256 w) (lit< tt)) in
+    let a : (v % 256 ^ suc w) % 256 ≡ v % 256 = omega arith in
+    let b : (v % 256 ^ suc w) / 256 ≡ v / 256 % 256 ^ w = omega arith in
+    rw (a, b, leBytes-mod w (v / 256)) refl
+
+-- a field reads no byte behind it
+pub le-take : (w n : ℕ) (s : List ℕ) → w ≤ n → le w (take n s) ≡ le w s
+unfolding le
+le-take zero n s h = refl
+le-take (suc w) zero s h = absurd (omega arith)
+le-take (suc w) (suc n) [] h = refl
+le-take (suc w) (suc n) (b ∷ bs) h = ap (λ (k : ℕ). b + 256 * k) (le-take w n bs (omega arith))
+
+-- a field that lies within the bytes is told; one that does not is short
+pub field-is : {A : Type 0} (w : ℕ) (is : ℕ → A) (short : A) (s : List ℕ) (at : ℕ) → at + w ≤ length s → fieldAt w is short s at ≡ is (le w (drop at s))
+unfolding fieldAt
+field-is w is short s at h = simp (le-leb _ _ h)
+
+pub field-short : {A : Type 0} (w : ℕ) (is : ℕ → A) (short : A) (s : List ℕ) (at : ℕ) → length s < at + w → fieldAt w is short s at ≡ short
+unfolding fieldAt
+field-short w is short s at h = simp (lt-leb _ _ h)
+
+pub put-done : (w : ℕ) (d : List ℕ) (at v : ℕ) → at + w ≤ length d → putAt w d at v ≡ written P.Done (sets d at (leBytes w v))
+unfolding putAt
+put-done w d at v h = simp (le-leb _ _ h)
+
+pub put-short : (w : ℕ) (d : List ℕ) (at v : ℕ) → length d < at + w → putAt w d at v ≡ written P.Short d
+unfolding putAt
+put-short w d at v h = simp (lt-leb _ _ h)

@@ -1,0 +1,117 @@
+// Little-endian fields of 4 and 8 bytes, read and written anywhere in a slice. A field that does not fit is an answer.
+ghost use mathlib.Core.Path.{_≡_};
+ghost use Prim.Native.Nat.{ℕ, _+_, _<_, _≤_};
+ghost use lib.ListN.{length, drop};
+ghost use lib.Seq.{sets};
+ghost use Rattle.field.specs.Field.{le, leBytes, field4, field8, written, putAt};
+
+pub enum Field4 {
+    Is(u32),
+    Short,
+}
+
+pub enum Field8 {
+    Is(u64),
+    Short,
+}
+
+pub enum Put {
+    Done,
+    Short,
+}
+
+fn wide(x: u8) -> u32
+    ensures { λ r. ⌜ (r ≡ x) × (r < 256) ⌝ }
+{
+    x as u32
+}
+
+fn get4(s: &[u8], at: usize) -> u32
+    requires { ⌜ at + 4 ≤ length (now s) ⌝ }
+    ensures { λ r. ⌜ r ≡ le 4 (drop at (now (s .entry))) ⌝ }
+{
+    wide(s[at]) + 256 * (wide(s[at + 1]) + 256 * (wide(s[at + 2]) + 256 * wide(s[at + 3])))
+}
+
+fn get8(s: &[u8], at: usize) -> u64
+    requires { ⌜ at + 8 ≤ length (now s) ⌝ }
+    ensures { λ r. ⌜ r ≡ le 8 (drop at (now (s .entry))) ⌝ }
+{
+    let lo = get4(s, at) as u64;
+    let hi = get4(s, at + 4) as u64;
+    lo + 4294967296 * hi
+}
+
+fn set4(d: &mut [u8], at: usize, v: u32)
+    requires { ⌜ at + 4 ≤ length (now d) ⌝ }
+    ensures { λ _. ⌜ now (d .exit) ≡ sets (now (d .entry)) at (leBytes 4 v) ⌝ }
+{
+    d[at] = (v % 256) as u8;
+    d[at + 1] = (v / 256 % 256) as u8;
+    d[at + 2] = (v / 65536 % 256) as u8;
+    d[at + 3] = (v / 16777216 % 256) as u8;
+}
+
+fn set8(d: &mut [u8], at: usize, v: u64)
+    requires { ⌜ at + 8 ≤ length (now d) ⌝ }
+    ensures { λ _. ⌜ now (d .exit) ≡ sets (now (d .entry)) at (leBytes 8 v) ⌝ }
+{
+    let lo = (v % 4294967296) as u32;
+    let hi = (v / 4294967296) as u32;
+    set4(d, at, lo);
+    set4(d, at + 4, hi);
+}
+
+// The field of 4 bytes at a place.
+pub fn u32_at(s: &[u8], at: usize) -> Field4
+    ensures { λ r. ⌜ r ≡ field4 (now (s .entry)) at ⌝ }
+{
+    if s.len() < 4 {
+        return Field4::Short;
+    }
+    if s.len() - 4 < at {
+        return Field4::Short;
+    }
+    Field4::Is(get4(s, at))
+}
+
+// The field of 8 bytes at a place.
+pub fn u64_at(s: &[u8], at: usize) -> Field8
+    ensures { λ r. ⌜ r ≡ field8 (now (s .entry)) at ⌝ }
+{
+    if s.len() < 8 {
+        return Field8::Short;
+    }
+    if s.len() - 8 < at {
+        return Field8::Short;
+    }
+    Field8::Is(get8(s, at))
+}
+
+// Writes a field of 4 bytes at a place.
+pub fn put_u32(d: &mut [u8], at: usize, v: u32) -> Put
+    ensures { λ r. ⌜ written r (now (d .exit)) ≡ putAt 4 (now (d .entry)) at v ⌝ }
+{
+    if d.len() < 4 {
+        return Put::Short;
+    }
+    if d.len() - 4 < at {
+        return Put::Short;
+    }
+    set4(d, at, v);
+    Put::Done
+}
+
+// Writes a field of 8 bytes at a place.
+pub fn put_u64(d: &mut [u8], at: usize, v: u64) -> Put
+    ensures { λ r. ⌜ written r (now (d .exit)) ≡ putAt 8 (now (d .entry)) at v ⌝ }
+{
+    if d.len() < 8 {
+        return Put::Short;
+    }
+    if d.len() - 8 < at {
+        return Put::Short;
+    }
+    set8(d, at, v);
+    Put::Done
+}
