@@ -106,6 +106,13 @@ le-take (suc w) zero s h = absurd (omega arith)
 le-take (suc w) (suc n) [] h = refl
 le-take (suc w) (suc n) (b ∷ bs) h = ap (λ (k : ℕ). b + 256 * k) (le-take w n bs (omega arith))
 
+-- a field within the first n bytes reads none behind them
+pub le-within : (w at n : ℕ) (s : List ℕ) → at + w ≤ n → le w (drop at (take n s)) ≡ le w (drop at s)
+le-within w zero n s h = le-take w n s (omega arith)
+le-within w (suc at) zero s h = absurd (omega arith)
+le-within w (suc at) (suc n) [] h = refl
+le-within w (suc at) (suc n) (b ∷ bs) h = le-within w at n bs (omega arith)
+
 -- a field that lies within the bytes is told; one that does not is short
 pub field-is : {A : Type 0} (w : ℕ) (is : ℕ → A) (short : A) (s : List ℕ) (at : ℕ) → at + w ≤ length s → fieldAt w is short s at ≡ is (le w (drop at s))
 unfolding fieldAt

@@ -1,0 +1,68 @@
+-- Bundles: image sets and name lists. Document 01, Records, "Bundle": slot count n (4 bytes, 0..64), data size d (4 bytes), n starts, n lengths
+-- (4 bytes each), d data bytes; total exactly 8 + 8n + d; a present slot's start + length is at most d, ranges may overlap; start 0xFFFFFFFF with
+-- length 0 means absent, allowed in an image set and not in a name list. Refusals, "Bundle check": 1 image set malformed, 2 names malformed.
+use Prim.Native.Nat.{ℕ, zero, suc, _+_, _*_}
+use mathlib.Core.Bool.{Bool, true, false}
+use mathlib.Core.List.{List}
+use lib.Dec.{ltb, leb, eqb}
+use lib.ListN.{length, drop}
+use Rattle.base.specs.Choice.{pick}
+use Rattle.field.specs.Field.{le}
+use Rattle.bundle.specs.declared.Checked.{Checked}
+use Rattle.bundle.specs.declared.Checked.the-variants as C
+use Rattle.bundle.specs.declared.Slot.{Slot}
+use Rattle.bundle.specs.declared.Slot.the-variants as S
+
+-- n, d, and the start and length of slot i
+abbrev pub countOf : List ℕ → ℕ
+countOf b = le 4 (drop 0 b)
+
+abbrev pub sizeOf : List ℕ → ℕ
+sizeOf b = le 4 (drop 4 b)
+
+abbrev pub startOf : List ℕ → ℕ → ℕ
+startOf b i = le 4 (drop (8 + 4 * i) b)
+
+abbrev pub lengthOf : List ℕ → ℕ → ℕ
+lengthOf b i = le 4 (drop (8 + 4 * countOf b + 4 * i) b)
+
+-- where the data begins in the bundle's bytes
+abbrev pub dataOf : List ℕ → ℕ
+dataOf b = 8 + 8 * countOf b
+
+abbrev pub absent : List ℕ → ℕ → Bool
+absent b i = pick (eqb (startOf b i) 0xFFFFFFFF) (eqb (lengthOf b i) 0) false
+
+-- slot i is good: absent where gaps are allowed, else a range within the data
+abbrev pub slotGood : Bool → List ℕ → ℕ → Bool
+slotGood gaps b i = pick (absent b i) gaps (leb (startOf b i + lengthOf b i) (sizeOf b))
+
+-- each of k slots from i on
+unfoldable pub slotsGood : Bool → List ℕ → ℕ → ℕ → Bool
+slotsGood gaps b zero i = true
+slotsGood gaps b (suc k) i = pick (slotGood gaps b i) (slotsGood gaps b k (suc i)) false
+
+-- a well-formed bundle, with or without gaps allowed
+unfoldable pub wellFormed : Bool → List ℕ → Bool
+wellFormed gaps b =
+    pick (ltb (length b) 8) false
+    (pick (ltb 64 (countOf b)) false
+    (pick (eqb (length b) (8 + 8 * countOf b + sizeOf b)) (slotsGood gaps b (countOf b) 0) false))
+
+-- the two checks, with 01's numbers
+abbrev pub imagesChecked : List ℕ → Checked
+imagesChecked b = pick (wellFormed true b) C.Good (C.Refused 1)
+
+abbrev pub namesChecked : List ℕ → Checked
+namesChecked b = pick (wellFormed false b) C.Good (C.Refused 2)
+
+-- slot i of any bytes: where it stands among them and how long it is, absent, or missing: no such slot, or it does not lie within the bytes
+-- (of a well-formed bundle, no such slot alone)
+unfoldable pub slotOf : List ℕ → ℕ → Slot
+slotOf b i =
+    pick (ltb (length b) 8) S.Missing
+    (pick (ltb (length b) (dataOf b)) S.Missing
+    (pick (leb (countOf b) i) S.Missing
+    (pick (absent b i) S.Absent
+    (pick (ltb (length b) (dataOf b + startOf b i + lengthOf b i)) S.Missing
+    (S.At (dataOf b + startOf b i) (lengthOf b i))))))

@@ -1,0 +1,135 @@
+-- The plain host. Document 01, "Plain host": "It sees no delivery. It is fed the session's opening, image set, names, buffer sizes, the device's
+-- opening bytes as one string, and its memory." Of the step it shares the verdict on one whole packet and the leaves, and knows nothing of its phases.
+use Prim.Native.Nat.{ℕ, zero, suc, _+_, _-_, _*_, _/_, _%_, min}
+use mathlib.Core.Bool.{Bool, true, false, not, _&&_}
+use mathlib.Core.List.{List, [], _∷_, _++_, map}
+use lib.Dec.{ltb, eqb}
+use lib.ListN.{length, take, drop}
+use Rattle.base.specs.Choice.{pick}
+use Rattle.bundle.specs.Bundle.{wellFormed}
+use Rattle.entry.specs.Entry.{entrySize, entryOf, baseOf, lengthOf}
+use Rattle.selection.specs.Selection.{selected}
+use Rattle.packet.specs.Packet.{lengthField, badLength}
+use Rattle.build.specs.Build.{bytesOf}
+use Rattle.build.specs.declared.Request.the-variants as Q
+use Rattle.verdict.specs.Verdict.{verdictOf}
+use Rattle.verdict.specs.declared.Opening.{Opening}
+use Rattle.verdict.specs.declared.Verdict.{Verdict}
+use Rattle.verdict.specs.declared.Verdict.the-variants as W
+use Rattle.session.specs.Step.{chunkOf, onUsb}
+
+-- what a host does that can be seen: a packet sent, an image's bytes, a region opened, a byte of it handed out, an empty read, a region closed,
+-- finished with the memory reads
+pub data Report : Type 0 where
+  sent : List ℕ → Report
+  image : List ℕ → Report
+  opened : ℕ → Report
+  byte : ℕ → Report
+  emptyRead : Report
+  closed : ℕ → Report
+  finished : ℕ → ℕ → Report
+
+-- k bytes of the memory from a on
+unfoldable pub bytesAt : (ℕ → ℕ) → ℕ → ℕ → List ℕ
+bytesAt mem a zero = []
+bytesAt mem a (suc k) = mem a ∷ bytesAt mem (suc a) k
+
+-- ---- "While bytes are left, it cuts off a packet of the length in its header, follows *Packet* and the refusals, and reports the packet sent, the
+-- image's bytes or finished. It stops where a packet is refused, cut short, finishing or an ExecuteResp. A memory debug ends this cutting."
+
+-- how the opening ends: stopped, or a memory debug of k bytes at a with what stands after it
+pub data Ending : Type 0 where
+  Stopped : Ending
+  Debugged : ℕ → ℕ → List ℕ → Ending
+
+pub record Heard : Type 0 where
+  pub said : List Report
+  pub ending : Ending
+
+abbrev pub stop : Ending → Heard
+stop e = record { said = []; ending = e }
+
+abbrev pub say : Report → Heard → Heard
+say r h = record { said = r ∷ h .said; ending = h .ending }
+
+-- by a packet's verdict; rest is what the bytes s behind the packet give
+abbrev pub after : List ℕ → List ℕ → Heard → Verdict → Heard
+after set s rest (W.Reply q) = say (sent (bytesOf q)) rest
+after set s rest (W.Image x k) = say (image (take k (drop x set))) rest
+after set s rest W.Pass = rest
+after set s rest (W.Finish how) = say (finished how 0) (stop Stopped)
+after set s rest (W.Respond c k) = say (sent (bytesOf (Q.ExecuteData c))) (stop Stopped)
+after set s rest (W.Debug a k) = stop (Debugged a k s)
+after set s rest (W.Refused why) = stop Stopped
+
+-- fuel: each packet has at least 8 bytes, so the string's length is enough
+unfoldable pub hear : Opening → List ℕ → ℕ → ℕ → ℕ → List ℕ → Heard
+hear u set tsize rsize zero s = stop Stopped
+hear u set tsize rsize (suc fuel) s =
+    pick (ltb (length s) 8) (stop Stopped)
+    (pick (badLength (lengthField s)) (stop Stopped)
+    (pick (ltb (length s) (lengthField s)) (stop Stopped)
+    (after set (drop (lengthField s) s) (hear u set tsize rsize fuel (drop (lengthField s) s))
+    (verdictOf u set tsize rsize (take (lengthField s) s)))))
+
+-- lent the image set, the names, and buffers by their sizes: 1, 2 and 3 refuse every step
+unfoldable pub hosted : Opening → List ℕ → List ℕ → ℕ → ℕ → ℕ → List ℕ → Heard
+hosted u set names tsize rsize osize s =
+    pick (not (wellFormed true set)) (stop Stopped)
+    (pick (not (wellFormed false names)) (stop Stopped)
+    (pick (ltb osize 48) (stop Stopped) (hear u set tsize rsize (length s) s)))
+
+-- ---- "Then, for each selected entry in table order, it reports open i; for each chunk from the region's base, min(4096, rest) bytes until none are
+-- left, a MemRead64, the memory's bytes there one by one and, on USB after a multiple of 512, an empty read; then close i."
+-- f is the width of an entry's numbers
+
+-- the selected ones of k entries from i on
+unfoldable pub chosen : ℕ → List ℕ → List ℕ → ℕ → ℕ → List ℕ
+chosen f names t zero i = []
+chosen f names t (suc k) i =
+    pick (selected f names (entryOf f t i)) (i ∷ chosen f names t k (suc i)) (chosen f names t k (suc i))
+
+abbrev pub emptyIf : Bool → List Report
+emptyIf b = pick b (emptyRead ∷ []) []
+
+-- one chunk: n bytes at a
+abbrev pub chunk : Opening → (ℕ → ℕ) → ℕ → ℕ → List Report
+chunk u mem a n =
+    sent (bytesOf (Q.MemRead64 a n)) ∷ (map byte (bytesAt mem a n) ++ emptyIf (onUsb u && eqb (n % 512) 0))
+
+-- l bytes from a on; fuel: each chunk has at least one byte, so l is enough
+unfoldable pub chunks : Opening → (ℕ → ℕ) → ℕ → ℕ → ℕ → List Report
+chunks u mem zero a l = []
+chunks u mem (suc fuel) a l =
+    pick (eqb l 0) []
+    (let n = min (chunkOf u) l in
+    chunk u mem a n ++ chunks u mem fuel (a + n) (l - n))
+
+-- how many chunks: l / 4096 rounded up
+abbrev pub chunkCount : Opening → ℕ → ℕ
+chunkCount u l = (l + (chunkOf u - 1)) / chunkOf u
+
+-- the regions of the entries is of the table t, with r memory reads before them. "Last comes finished (3) with the count: one for the table, one a
+-- chunk."
+unfoldable pub regions : ℕ → Opening → (ℕ → ℕ) → List ℕ → List ℕ → ℕ → List Report
+regions f u mem t [] r = finished 3 r ∷ []
+regions f u mem t (i ∷ is) r =
+    let l = lengthOf f (entryOf f t i) in
+    opened i ∷ (chunks u mem l (baseOf f (entryOf f t i)) l ++ (closed i ∷ regions f u mem t is (r + chunkCount u l)))
+
+-- ---- the whole: "its MemRead64 is reported, and the table is the memory's bytes there"
+
+-- the selected entries of a table of k bytes at a
+abbrev pub selectedIn : ℕ → (ℕ → ℕ) → List ℕ → ℕ → ℕ → List ℕ
+selectedIn f mem names a k = chosen f names (bytesAt mem a k) (k / entrySize f) 0
+
+unfoldable pub dump : Opening → (ℕ → ℕ) → List ℕ → Ending → List Report
+dump u mem names Stopped = []
+dump u mem names (Debugged a k s) =
+    sent (bytesOf (Q.MemRead64 a k)) ∷ regions 8 u mem (bytesAt mem a k) (selectedIn 8 mem names a k) 1
+
+unfoldable pub reportsOf : Opening → (ℕ → ℕ) → List ℕ → Heard → List Report
+reportsOf u mem names h = h .said ++ dump u mem names (h .ending)
+
+unfoldable pub plain : Opening → (ℕ → ℕ) → List ℕ → List ℕ → ℕ → ℕ → ℕ → List ℕ → List Report
+plain u mem set names tsize rsize osize s = reportsOf u mem names (hosted u set names tsize rsize osize s)

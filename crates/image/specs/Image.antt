@@ -1,0 +1,34 @@
+-- Image ranges. Document 01, "Images": an image ID and a slot number are different quantities; with n = 1 every ID means slot 0, otherwise
+-- slot = ID. The answer is the set's bytes offset..offset+length of that slot. The sum never wraps; length 0 at the image's end is accepted.
+-- Refusals, "Image range": 1; 12 no such or absent slot; 13 sum above the image's length.
+use Prim.Native.Nat.{ℕ, _+_}
+use mathlib.Core.Bool.{Bool, true, false}
+use mathlib.Core.List.{List}
+use lib.Dec.{leb, eqb}
+use lib.ListN.{take, drop}
+use Rattle.base.specs.Choice.{pick}
+use Rattle.bundle.specs.Bundle.{wellFormed, countOf, slotOf}
+use Rattle.bundle.specs.declared.Slot.{Slot}
+use Rattle.bundle.specs.declared.Slot.the-variants.{At, Absent, Missing}
+use Rattle.image.specs.declared.ImageRange.{ImageRange}
+use Rattle.image.specs.declared.ImageRange.the-variants as R
+
+-- the one-image rule: the slot that an image ID means among n slots
+abbrev pub slotFor : ℕ → ℕ → ℕ
+slotFor n id = pick (eqb n 1) 0 id
+
+-- offset and length within a slot: where the bytes start in the set, and how many
+abbrev pub rangeIn : Slot → ℕ → ℕ → ImageRange
+rangeIn (At start size) offset len = pick (leb (offset + len) size) (R.At (start + offset) len) (R.Refused 13)
+rangeIn Absent offset len = R.Refused 12
+rangeIn Missing offset len = R.Refused 12
+
+unfoldable pub rangeOf : List ℕ → ℕ → ℕ → ℕ → ImageRange
+rangeOf set id offset len =
+    pick (wellFormed true set) (rangeIn (slotOf set (slotFor (countOf set) id)) offset len) (R.Refused 1)
+
+-- the bytes of a slot's image
+abbrev pub imageIn : List ℕ → Slot → List ℕ
+imageIn set (At start size) = take size (drop start set)
+imageIn set Absent = take 0 set
+imageIn set Missing = take 0 set

@@ -1,0 +1,127 @@
+-- Laws of decoding: it looks at no more than the first 48 bytes, and what it accepts has at least the kind's least body. Both go by the kind.
+-- Assumes nothing.
+use mathlib.Core.Path.{_≡_, refl, sym, ap, _∙_}
+use mathlib.Core.Bool.{Bool, true, false}
+use mathlib.Core.List.{List}
+use mathlib.Core.Logic.{⊎-elim, _⊎_, inl, inr}
+use Prim.Native.Nat.{ℕ, zero, suc, _+_, _*_, _≤_, _<_, min}
+use native.Mathlib.Omega.{arith}
+use borrow.Author.Tests.{le-ltb, lt-ltb, ltb-true, ltb-false}
+use lib.Dec.{ltb, lit≤}
+use lib.ListN.{length, take, drop, length-take}
+use Rattle.base.specs.Choice.{pick}
+use Rattle.field.specs.Field.{le}
+use Rattle.field.proofs.Laws.{le-within}
+use Rattle.command.specs.Command.{leastBody, modeOf, commandOf, classOf}
+use Rattle.command.specs.declared.SaharaCmd.{SaharaCmd}
+use Rattle.command.specs.declared.SaharaCmd.the-variants as K
+use Rattle.command.specs.declared.ModeOf.{ModeOf}
+use Rattle.command.specs.declared.ModeOf.the-variants as MO
+use Rattle.command.specs.declared.CommandOf.{CommandOf}
+use Rattle.command.specs.declared.CommandOf.the-variants as CO
+use Rattle.command.specs.declared.Class.{Class}
+use Rattle.command.specs.declared.Class.the-variants as C
+use Rattle.packet.specs.Packet.{commandField, unkOf, helloOf, helloRespOf, execRespOf, execDataOf, bodyOf, kindOf, byClass, decodeOf}
+use Rattle.packet.specs.declared.Decoded.{Decoded}
+use Rattle.packet.specs.declared.Decoded.the-variants as D
+use Rattle.packet.specs.declared.SaharaPacket.{SaharaPacket}
+
+-- a length below m is the same test after the first n bytes are taken
+short-window : (n m : ℕ) (p : List ℕ) → m ≤ n → ltb (length (take n p)) m ≡ ltb (length p) m
+short-window n m p h =
+    ⊎-elim
+    (λ (e : length p < m). lt-ltb (length (take n p)) m (rw length-take (omega arith)) ∙ sym (lt-ltb (length p) m e))
+    (λ (e : m ≤ length p). le-ltb (length (take n p)) m (rw length-take (omega arith)) ∙ sym (le-ltb (length p) m e))
+    (split (length p) m)
+  where
+    split : (a b : ℕ) → (a < b) ⊎ (b ≤ a)
+    split a zero = inr (omega arith)
+    split zero (suc b) = inl (omega arith)
+    split (suc a) (suc b) = ⊎-elim (λ x. inl (omega arith)) (λ x. inr (omega arith)) (split a b)
+
+field-window : (w at : ℕ) (p : List ℕ) → at + w ≤ 48 → le w (drop at (take 48 p)) ≡ le w (drop at p)
+field-window w at p h = le-within w at 48 p h
+
+least-fits : (k : SaharaCmd) → 8 + leastBody k ≤ 48
+least-fits K.Hello = lit≤ tt
+least-fits K.HelloResp = lit≤ tt
+least-fits K.ReadData = lit≤ tt
+least-fits K.EndOfImage = lit≤ tt
+least-fits K.Done = lit≤ tt
+least-fits K.DoneResp = lit≤ tt
+least-fits K.ResetResp = lit≤ tt
+least-fits K.CommandReady = lit≤ tt
+least-fits K.ExecuteResp = lit≤ tt
+least-fits K.ExecuteData = lit≤ tt
+least-fits K.MemDebug64 = lit≤ tt
+least-fits K.MemRead64 = lit≤ tt
+least-fits K.ReadData64 = lit≤ tt
+
+module _ (p : List ℕ) where
+  len-window : le 4 (drop 4 (take 48 p)) ≡ le 4 (drop 4 p)
+  len-window = field-window 4 4 p (lit≤ tt)
+
+  w0 : le 4 (drop 8 (take 48 p)) ≡ le 4 (drop 8 p)
+  w0 = field-window 4 8 p (lit≤ tt)
+
+  w1 : le 4 (drop 12 (take 48 p)) ≡ le 4 (drop 12 p)
+  w1 = field-window 4 12 p (lit≤ tt)
+
+  w2 : le 4 (drop 16 (take 48 p)) ≡ le 4 (drop 16 p)
+  w2 = field-window 4 16 p (lit≤ tt)
+
+
+  mode-window : le 4 (drop 20 (take 48 p)) ≡ le 4 (drop 20 p)
+  mode-window = field-window 4 20 p (lit≤ tt)
+
+  unk-window : unkOf (take 48 p) ≡ unkOf p
+  unk-window =
+      simp
+      (field-window 4 24 p (lit≤ tt), field-window 4 28 p (lit≤ tt), field-window 4 32 p (lit≤ tt), field-window 4 36 p (lit≤ tt),
+      field-window 4 40 p (lit≤ tt), field-window 4 44 p (lit≤ tt))
+
+  hello-window : (m : ModeOf) → helloOf (take 48 p) m ≡ helloOf p m
+  hello-window (MO.Is m) = rw (len-window, w0, w1, w2, unk-window) refl
+  hello-window MO.Bad = refl
+
+  helloResp-window : (m : ModeOf) → helloRespOf (take 48 p) m ≡ helloRespOf p m
+  helloResp-window (MO.Is m) = rw (len-window, w0, w1, w2, unk-window) refl
+  helloResp-window MO.Bad = refl
+
+  execResp-window : (c : CommandOf) → execRespOf (take 48 p) c ≡ execRespOf p c
+  execResp-window (CO.Is c) = rw (len-window, w1) refl
+  execResp-window CO.Bad = refl
+
+  execData-window : (c : CommandOf) → execDataOf (take 48 p) c ≡ execDataOf p c
+  execData-window (CO.Is c) = rw len-window refl
+  execData-window CO.Bad = refl
+
+  body-window : (k : SaharaCmd) → bodyOf (take 48 p) k ≡ bodyOf p k
+  body-window K.Hello = rw (mode-window, hello-window (modeOf (le 4 (drop 20 p)))) refl
+  body-window K.HelloResp = rw (mode-window, helloResp-window (modeOf (le 4 (drop 20 p)))) refl
+  body-window K.ReadData = simp (len-window, w0, w1, w2)
+  body-window K.EndOfImage = simp (len-window, w0, w1)
+  body-window K.Done = simp len-window
+  body-window K.DoneResp = simp (len-window, w0)
+  body-window K.ResetResp = simp len-window
+  body-window K.CommandReady = simp len-window
+  body-window K.ExecuteResp = rw (w0, execResp-window (commandOf (le 4 (drop 8 p)))) refl
+  body-window K.ExecuteData = rw (w0, execData-window (commandOf (le 4 (drop 8 p)))) refl
+  body-window K.MemDebug64 = simp (len-window, field-window 8 8 p (lit≤ tt), field-window 8 16 p (lit≤ tt))
+  body-window K.MemRead64 = simp (len-window, field-window 8 8 p (lit≤ tt), field-window 8 16 p (lit≤ tt))
+  body-window K.ReadData64 = simp (len-window, field-window 8 8 p (lit≤ tt), field-window 8 16 p (lit≤ tt), field-window 8 24 p (lit≤ tt))
+
+  kind-window : (k : SaharaCmd) → kindOf (take 48 p) k ≡ kindOf p k
+  unfolding kindOf
+  kind-window k = rw (short-window 48 (8 + leastBody k) p (least-fits k), body-window k) refl
+
+  class-window : (c : Class) → byClass (take 48 p) c ≡ byClass p c
+  class-window (C.Kind k) = kind-window k
+  class-window C.Xml = refl
+  class-window C.Unimplemented = refl
+  class-window C.Unknown = refl
+
+  -- decoding looks at no more than the first 48 bytes
+  pub window : decodeOf (take 48 p) ≡ decodeOf p
+  unfolding decodeOf
+  window = rw (short-window 48 8 p (lit≤ tt), field-window 4 0 p (lit≤ tt), class-window (classOf (commandField p))) refl

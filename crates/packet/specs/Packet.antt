@@ -1,0 +1,106 @@
+-- Decoding of a packet. Document 01, Records, "Packet": command (4 bytes), total length (4 bytes), body; "Extra body bytes are ignored in decoding."
+-- Refusals, "Decode": 9 below 8 bytes; 6 unknown; 7 XML; 8 unimplemented; 9 short body or bad mode or command. The length field is handed on and not
+-- judged; `sahara_read_packet` refuses it outside 8..4096 (5).
+use Prim.Native.Nat.{ℕ, _+_, _*_}
+use mathlib.Core.Bool.{Bool, true, false}
+use mathlib.Core.List.{List}
+use lib.Dec.{ltb}
+use lib.ListN.{length, drop}
+use Rattle.base.specs.Choice.{pick}
+use Rattle.field.specs.Field.{le}
+use Rattle.command.specs.Command.{leastBody, modeOf, commandOf, classOf}
+use Rattle.command.specs.declared.SaharaCmd.{SaharaCmd}
+use Rattle.command.specs.declared.SaharaCmd.the-variants as K
+use Rattle.command.specs.declared.ModeOf.{ModeOf}
+use Rattle.command.specs.declared.ModeOf.the-variants as MO
+use Rattle.command.specs.declared.CommandOf.{CommandOf}
+use Rattle.command.specs.declared.CommandOf.the-variants as CO
+use Rattle.command.specs.declared.Class.{Class}
+use Rattle.command.specs.declared.Class.the-variants as C
+use Rattle.packet.specs.declared.Unk.{Unk}
+use Rattle.packet.specs.declared.SaharaPacketBody.{SaharaPacketBody}
+use Rattle.packet.specs.declared.SaharaPacketBody.the-variants as B
+use Rattle.packet.specs.declared.Decoded.{Decoded}
+use Rattle.packet.specs.declared.Decoded.the-variants as D
+use Rattle.packet.specs.declared.LengthCheck.{LengthCheck}
+use Rattle.packet.specs.declared.LengthCheck.the-variants as L
+
+-- the header's two words
+abbrev pub commandField : List ℕ → ℕ
+commandField p = le 4 (drop 0 p)
+
+abbrev pub lengthField : List ℕ → ℕ
+lengthField p = le 4 (drop 4 p)
+
+-- word k and long k of the body, of 4 and of 8 bytes
+abbrev pub word : List ℕ → ℕ → ℕ
+word p k = le 4 (drop (8 + 4 * k) p)
+
+abbrev pub long : List ℕ → ℕ → ℕ
+long p k = le 8 (drop (8 + 8 * k) p)
+
+-- a packet with this body; its length field is handed on
+abbrev pub packetIs : List ℕ → SaharaPacketBody → Decoded
+packetIs p b = D.Is (record { len = lengthField p; body = b })
+
+-- the six words behind a mode
+abbrev pub unkOf : List ℕ → Unk
+unkOf p = record { unk0 = word p 4; unk1 = word p 5; unk2 = word p 6; unk3 = word p 7; unk4 = word p 8; unk5 = word p 9 }
+
+-- "Hello: version, compatible, greatest length, mode, six unused words."
+abbrev pub helloOf : List ℕ → ModeOf → Decoded
+helloOf p (MO.Is m) =
+    packetIs p (B.HelloReq (record { ver = word p 0; compatible = word p 1; «max_len» = word p 2; mode = m; unk = unkOf p }))
+helloOf p MO.Bad = D.Refused 9
+
+-- "HelloResp: version, compatible, status, mode, six words."
+abbrev pub helloRespOf : List ℕ → ModeOf → Decoded
+helloRespOf p (MO.Is m) =
+    packetIs p (B.HelloResp (record { ver = word p 0; compatible = word p 1; status = word p 2; mode = m; unk = unkOf p }))
+helloRespOf p MO.Bad = D.Refused 9
+
+-- "ExecuteResp: command, length."
+abbrev pub execRespOf : List ℕ → CommandOf → Decoded
+execRespOf p (CO.Is c) = packetIs p (B.ExecResp (record { command = c; len = word p 1 }))
+execRespOf p CO.Bad = D.Refused 9
+
+-- "ExecuteData: command."
+abbrev pub execDataOf : List ℕ → CommandOf → Decoded
+execDataOf p (CO.Is c) = packetIs p (B.ExecData (record { command = c }))
+execDataOf p CO.Bad = D.Refused 9
+
+-- the body of each kind, its least bytes being there
+abbrev pub bodyOf : List ℕ → SaharaCmd → Decoded
+bodyOf p K.Hello = helloOf p (modeOf (word p 3))
+bodyOf p K.HelloResp = helloRespOf p (modeOf (word p 3))
+bodyOf p K.ReadData = packetIs p (B.ReadReq (record { image = word p 0; offset = word p 1; len = word p 2 }))
+bodyOf p K.EndOfImage = packetIs p (B.Eoi (record { image = word p 0; status = word p 1 }))
+bodyOf p K.Done = packetIs p B.DoneReq
+bodyOf p K.DoneResp = packetIs p (B.DoneResp (record { status = word p 0 }))
+bodyOf p K.ResetResp = packetIs p B.ResetResp
+bodyOf p K.CommandReady = packetIs p B.CommandReady
+bodyOf p K.ExecuteResp = execRespOf p (commandOf (word p 0))
+bodyOf p K.ExecuteData = execDataOf p (commandOf (word p 0))
+bodyOf p K.MemDebug64 = packetIs p (B.Debug64Req (record { addr = long p 0; len = long p 1 }))
+bodyOf p K.MemRead64 = packetIs p (B.ReadMem64Req (record { addr = long p 0; len = long p 1 }))
+bodyOf p K.ReadData64 = packetIs p (B.ReadData64Req (record { image = long p 0; offset = long p 1; len = long p 2 }))
+
+-- a kind's body, or 9 where it is short
+unfoldable pub kindOf : List ℕ → SaharaCmd → Decoded
+kindOf p k = pick (ltb (length p) (8 + leastBody k)) (D.Refused 9) (bodyOf p k)
+
+abbrev pub byClass : List ℕ → Class → Decoded
+byClass p (C.Kind k) = kindOf p k
+byClass p C.Xml = D.Refused 7
+byClass p C.Unimplemented = D.Refused 8
+byClass p C.Unknown = D.Refused 6
+
+unfoldable pub decodeOf : List ℕ → Decoded
+decodeOf p = pick (ltb (length p) 8) (D.Refused 9) (byClass p (classOf (commandField p)))
+
+-- the length rule of `sahara_read_packet`
+abbrev pub badLength : ℕ → Bool
+badLength n = pick (ltb n 8) true (ltb 4096 n)
+
+abbrev pub lengthChecked : ℕ → LengthCheck
+lengthChecked n = pick (badLength n) (L.Refused 5) L.Good

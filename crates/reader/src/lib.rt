@@ -1,0 +1,1 @@
+// The body of a packet, read field by field: the packet's bytes and a cursor.

@@ -1,0 +1,68 @@
+-- The verdict on one whole packet: 01's term "Packet" among the phases of a session, and the refusals that belong to it. Document 01, "Session",
+-- *Packet*; Refusals, "Step, session ended": 10 kinds 2, 5, 0x0f, 0x11; 11 length not exact; 12, 13; 14 end status not 0; 15 no command; 16 response
+-- above the reply buffer; 17 table above 65,536 or its buffer. Where several apply, the first written is given. The step and the plain host share
+-- this and nothing else of each other.
+use Prim.Native.Nat.{ℕ, min}
+use mathlib.Core.Bool.{Bool, true, false}
+use mathlib.Core.List.{List}
+use lib.Dec.{ltb, eqb}
+use Rattle.base.specs.Choice.{pick}
+use Rattle.bundle.specs.Bundle.{countOf}
+use Rattle.image.specs.Image.{rangeOf}
+use Rattle.image.specs.declared.ImageRange.{ImageRange}
+use Rattle.image.specs.declared.ImageRange.the-variants as R
+use Rattle.packet.specs.Packet.{decodeOf}
+use Rattle.packet.specs.declared.SaharaPacketBody.{SaharaPacketBody}
+use Rattle.packet.specs.declared.SaharaPacketBody.the-variants as B
+use Rattle.packet.specs.declared.Decoded.{Decoded}
+use Rattle.packet.specs.declared.Decoded.the-variants as D
+use Rattle.build.specs.declared.Request.the-variants as Q
+use Rattle.verdict.specs.declared.ExecCommand.{ExecCommand}
+use Rattle.verdict.specs.declared.ExecCommand.the-variants as X
+use Rattle.verdict.specs.declared.Opening.{Opening}
+use Rattle.verdict.specs.declared.Verdict.{Verdict}
+use Rattle.verdict.specs.declared.Verdict.the-variants as W
+
+-- a packet's length field is exactly so much, else 11
+abbrev pub exactly : ℕ → ℕ → Verdict → Verdict
+exactly len n v = pick (eqb len n) v (W.Refused 11)
+
+-- "either read gives image"; 12 and 13
+abbrev pub imageFor : ImageRange → Verdict
+imageFor (R.At start k) = W.Image start k
+imageFor (R.Refused why) = W.Refused why
+
+-- "CommandReady sends Execute"; 15 no command
+abbrev pub executeFor : ExecCommand → Verdict
+executeFor (X.Is c) = W.Reply (Q.Execute c)
+executeFor X.None = W.Refused 15
+
+-- the most that a table may have: 65,536 and its buffer
+abbrev pub room : ℕ → ℕ
+room tsize = min 65536 tsize
+
+-- by the kind; len is the length field, n the set's slot count, tsize and rsize the table and the reply buffer's sizes
+abbrev pub onBody : Opening → List ℕ → ℕ → ℕ → ℕ → SaharaPacketBody → Verdict
+onBody o set tsize rsize len (B.HelloReq b) = exactly len 48 (W.Reply (Q.HelloResp (o .mode)))
+onBody o set tsize rsize len (B.HelloResp b) = W.Refused 10
+onBody o set tsize rsize len (B.ReadReq b) = exactly len 20 (imageFor (rangeOf set (b .image) (b .offset) (b .len)))
+onBody o set tsize rsize len (B.Eoi b) = exactly len 16 (pick (eqb (b .status) 0) (W.Reply Q.Done) (W.Refused 14))
+onBody o set tsize rsize len B.DoneReq = W.Refused 10
+onBody o set tsize rsize len (B.DoneResp b) =
+    pick (eqb (b .status) 1) (W.Finish 1) (pick (eqb (countOf set) 1) (W.Finish 1) W.Pass)
+onBody o set tsize rsize len B.ResetResp = exactly len 8 (W.Finish 2)
+onBody o set tsize rsize len B.CommandReady = exactly len 8 (executeFor (o .command))
+onBody o set tsize rsize len (B.ExecResp b) = pick (ltb rsize (b .len)) (W.Refused 16) (W.Respond (b .command) (b .len))
+onBody o set tsize rsize len (B.ExecData b) = W.Refused 10
+onBody o set tsize rsize len (B.Debug64Req b) =
+    exactly len 24 (pick (ltb (room tsize) (b .len)) (W.Refused 17) (W.Debug (b .addr) (b .len)))
+onBody o set tsize rsize len (B.ReadMem64Req b) = W.Refused 10
+onBody o set tsize rsize len (B.ReadData64Req b) = exactly len 32 (imageFor (rangeOf set (b .image) (b .offset) (b .len)))
+
+abbrev pub onDecoded : Opening → List ℕ → ℕ → ℕ → Decoded → Verdict
+onDecoded o set tsize rsize (D.Is p) = onBody o set tsize rsize (p .len) (p .body)
+onDecoded o set tsize rsize (D.Refused why) = W.Refused why
+
+-- the verdict on the packet whose bytes are p
+unfoldable pub verdictOf : Opening → List ℕ → ℕ → ℕ → List ℕ → Verdict
+verdictOf o set tsize rsize p = onDecoded o set tsize rsize (decodeOf p)
