@@ -2,6 +2,7 @@
 use mathlib.Core.Path.{_≡_, refl, sym, ap, _∙_}
 use mathlib.Core.Bool.{Bool, true, false}
 use mathlib.Core.List.{List, [], _∷_, _++_, append-assoc}
+use mathlib.Core.Logic.{⊎-elim, _⊎_, inl, inr}
 use Prim.Native.Nat.{ℕ, zero, suc, _+_, _*_, _/_, _%_, _^_, _<_, _≤_}
 use native.Mathlib.Omega.{arith}
 use native.Mathlib.Nat.{
@@ -23,7 +24,10 @@ use lib.ListN.{length, getD, drop, take}
 use lib.Arith.{mod-mul}
 use lib.Dec.{lit<}
 use lib.Seq.{sets, sets-eq, drop-at, length-take-le}
-use Rattle.field.specs.Field.{le, leBytes, fieldAt, putAt, written}
+use Rattle.base.proofs.Ranges.{below-or-not}
+use Rattle.field.specs.Field.{le, leBytes, fieldAt, field4, field8, putAt, written}
+use Rattle.field.specs.declared.Field4.the-variants as F4
+use Rattle.field.specs.declared.Field8.the-variants as F8
 use Rattle.field.specs.declared.Put.the-variants as P
 
 -- the first byte, and the rest
@@ -129,3 +133,40 @@ put-done w d at v h = simp (le-leb _ _ h)
 pub put-short : (w : ℕ) (d : List ℕ) (at v : ℕ) → length d < at + w → putAt w d at v ≡ written P.Short d
 unfolding putAt
 put-short w d at v h = simp (lt-leb _ _ h)
+
+-- a field is told exactly where it lies within the bytes
+pub field-cases : {A : Type 0} (w : ℕ) (is : ℕ → A) (short : A) (s : List ℕ) (at : ℕ)
+    → ((fieldAt w is short s at ≡ is (le w (drop at s))) × (at + w ≤ length s)) ⊎ ((fieldAt w is short s at ≡ short) × (length s < at + w))
+field-cases w is short s at =
+    ⊎-elim
+    (λ (h : length s < at + w). inr (field-short w is short s at h, h))
+    (λ (h : at + w ≤ length s). inl (field-is w is short s at h, h))
+    (below-or-not (length s) (at + w))
+
+-- so what is told says where the field lies, for any two answers that differ
+module _ {A : Type 0} (w : ℕ) (is : ℕ → A) (short : A) (differ : (v : ℕ) → is v ≡ short → ⊥) (one : (x y : ℕ) → is x ≡ is y → x ≡ y)
+    (s : List ℕ) (at : ℕ) where
+  pub told-is : (v : ℕ) → fieldAt w is short s at ≡ is v → (at + w ≤ length s) × (v ≡ le w (drop at s))
+  told-is v e =
+      ⊎-elim
+      (λ h. (h .1, one v (le w (drop at s)) (sym e ∙ h .0)))
+      (λ h. absurd (differ v (sym e ∙ h .0)))
+      (field-cases w is short s at)
+
+  pub told-short : fieldAt w is short s at ≡ short → length s < at + w
+  told-short e =
+      ⊎-elim (λ h. absurd (differ (le w (drop at s)) (sym (h .0) ∙ e))) (λ h. h .1) (field-cases w is short s at)
+
+-- of 4 and of 8 bytes
+module _ (s : List ℕ) (at : ℕ) where
+  pub field4-is : (v : ℕ) → field4 s at ≡ F4.Is v → (at + 4 ≤ length s) × (v ≡ le 4 (drop at s))
+  field4-is = told-is 4 F4.Is F4.Short (λ v e. absurd (let z : _≡_ {A = ℕ} 0 1 = cc in omega arith)) (λ x y e. cc) s at
+
+  pub field4-short : field4 s at ≡ F4.Short → length s < at + 4
+  field4-short = told-short 4 F4.Is F4.Short (λ v e. absurd (let z : _≡_ {A = ℕ} 0 1 = cc in omega arith)) (λ x y e. cc) s at
+
+  pub field8-is : (v : ℕ) → field8 s at ≡ F8.Is v → (at + 8 ≤ length s) × (v ≡ le 8 (drop at s))
+  field8-is = told-is 8 F8.Is F8.Short (λ v e. absurd (let z : _≡_ {A = ℕ} 0 1 = cc in omega arith)) (λ x y e. cc) s at
+
+  pub field8-short : field8 s at ≡ F8.Short → length s < at + 8
+  field8-short = told-short 8 F8.Is F8.Short (λ v e. absurd (let z : _≡_ {A = ℕ} 0 1 = cc in omega arith)) (λ x y e. cc) s at

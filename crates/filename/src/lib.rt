@@ -1,17 +1,58 @@
 // Filenames of table entries: the stem, and the tests of a region's name.
 ghost use mathlib.Core.Path.{_≡_};
 ghost use lib.ListN.{length};
-ghost use Rattle.filename.specs.Filename.{stemOf, openingCheck, openedCheck};
+ghost use Rattle.filename.specs.Filename.{before, stemOf, openingCheck, openedCheck};
 
 pub enum NameCheck {
     Good,
     Refused(u8),
 }
 
+// How many bytes stand before the first b, all where there is none.
+fn find(name: &[u8], b: u8) -> usize
+    ensures { λ r. ⌜ r ≡ length (before b (now (name .entry))) ⌝ }
+{
+    let mut i: usize = 0;
+    while i < name.len() {
+        if name[i] == b {
+            return i;
+        }
+        i += 1;
+    }
+    i
+}
+
 // How many bytes of the name are its stem.
-// pub fn stem_len(name: &[u8]) -> usize
-//     ensures { λ r. ⌜ r ≡ length (stemOf (now (name .entry))) ⌝ }
-// pub fn check_opening(name: &[u8]) -> NameCheck
-//     ensures { λ r. ⌜ r ≡ openingCheck (now (name .entry)) ⌝ }
-// pub fn check_opened(name: &[u8]) -> NameCheck
-//     ensures { λ r. ⌜ r ≡ openedCheck (now (name .entry)) ⌝ }
+pub fn stem_len(name: &[u8]) -> usize
+    ensures { λ r. ⌜ r ≡ length (stemOf (now (name .entry))) ⌝ }
+{
+    if utf8::valid(name) {
+        return find(name, b'.');
+    }
+    0
+}
+
+// What opening a region says of its name.
+pub fn check_opening(name: &[u8]) -> NameCheck
+    ensures { λ r. ⌜ r ≡ openingCheck (now (name .entry)) ⌝ }
+{
+    let n = name.len();
+    let k = find(name, 0);
+    if k == n {
+        return NameCheck::Refused(19);
+    }
+    if utf8::valid(&name[..k]) {
+        return NameCheck::Good;
+    }
+    NameCheck::Refused(20)
+}
+
+// What the step after open says of it.
+pub fn check_opened(name: &[u8]) -> NameCheck
+    ensures { λ r. ⌜ r ≡ openedCheck (now (name .entry)) ⌝ }
+{
+    if utf8::valid(name) {
+        return NameCheck::Good;
+    }
+    NameCheck::Refused(21)
+}

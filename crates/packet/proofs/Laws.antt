@@ -10,6 +10,7 @@ use borrow.Author.Tests.{le-ltb, lt-ltb, ltb-true, ltb-false}
 use lib.Dec.{ltb, lit≤}
 use lib.ListN.{length, take, drop, length-take}
 use Rattle.base.specs.Choice.{pick}
+use Rattle.base.proofs.Ranges.{below-or-not}
 use Rattle.field.specs.Field.{le}
 use Rattle.field.proofs.Laws.{le-within}
 use Rattle.command.specs.Command.{leastBody, modeOf, commandOf, classOf}
@@ -21,10 +22,58 @@ use Rattle.command.specs.declared.CommandOf.{CommandOf}
 use Rattle.command.specs.declared.CommandOf.the-variants as CO
 use Rattle.command.specs.declared.Class.{Class}
 use Rattle.command.specs.declared.Class.the-variants as C
-use Rattle.packet.specs.Packet.{commandField, unkOf, helloOf, helloRespOf, execRespOf, execDataOf, bodyOf, kindOf, byClass, decodeOf}
+use Rattle.packet.specs.Packet.{commandField, unkOf, helloOf, helloRespOf, execRespOf, execDataOf, bodyOf, kindOf, helloWith, helloIn, byClass, decodeOf}
+use Rattle.packet.specs.declared.HelloBody.{HelloBody}
+use Rattle.packet.specs.declared.HelloBody.the-variants as H
+use Rattle.packet.specs.declared.SaharaPacketBody.the-variants as B
+use Rattle.packet.specs.declared.Body.{Body}
+use Rattle.packet.specs.declared.Body.the-variants as Y
 use Rattle.packet.specs.declared.Decoded.{Decoded}
 use Rattle.packet.specs.declared.Decoded.the-variants as D
 use Rattle.packet.specs.declared.SaharaPacket.{SaharaPacket}
+
+-- a field that was read at a place which is known by another sum
+pub moved : (w v at at′ : ℕ) (p : List ℕ) → v ≡ le w (drop at p) → at ≡ at′ → v ≡ le w (drop at′ p)
+moved w v at at′ p e q = e ∙ ap (λ (k : ℕ). le w (drop k p)) q
+
+-- a body that is short is malformed; one that is not is read
+module _ (k : SaharaCmd) (p : List ℕ) where
+  pub short-body : length p < 8 + leastBody k → kindOf p k ≡ Y.Malformed
+  unfolding kindOf
+  short-body h = simp (lt-ltb _ _ h)
+
+  pub whole-body : 8 + leastBody k ≤ length p → kindOf p k ≡ bodyOf p k
+  unfolding kindOf
+  whole-body h = simp (le-ltb _ _ h)
+
+-- either hello's body is its parts, under the names of its kind
+abbrev pub asReq : HelloBody → Body
+asReq (H.Is h) =
+    Y.Is
+    (B.HelloReq (record { ver = h .ver; compatible = h .compatible; «max_len» = h .status; mode = h .mode; unk = h .unk }))
+asReq H.Malformed = Y.Malformed
+
+abbrev pub asResp : HelloBody → Body
+asResp (H.Is h) = Y.Is (B.HelloResp h)
+asResp H.Malformed = Y.Malformed
+
+pub hello-req : (p : List ℕ) → kindOf p K.Hello ≡ asReq (helloIn p)
+unfolding kindOf helloIn
+hello-req p = go (ltb (length p) 48) (modeOf (le 4 (drop 20 p)))
+  where
+    go : (t : Bool) (m : ModeOf) → pick t Y.Malformed (helloOf p m) ≡ asReq (pick t H.Malformed (helloWith p m))
+    go true m = refl
+    go false (MO.Is m) = refl
+    go false MO.Bad = refl
+
+pub hello-resp : (p : List ℕ) → kindOf p K.HelloResp ≡ asResp (helloIn p)
+unfolding kindOf helloIn
+hello-resp p = go (ltb (length p) 48) (modeOf (le 4 (drop 20 p)))
+  where
+    go : (t : Bool) (m : ModeOf) → pick t Y.Malformed (helloRespOf p m) ≡ asResp (pick t H.Malformed (helloWith p m))
+    go true m = refl
+    go false (MO.Is m) = refl
+    go false MO.Bad = refl
 
 -- a length below m is the same test after the first n bytes are taken
 short-window : (n m : ℕ) (p : List ℕ) → m ≤ n → ltb (length (take n p)) m ≡ ltb (length p) m
@@ -32,12 +81,7 @@ short-window n m p h =
     ⊎-elim
     (λ (e : length p < m). lt-ltb (length (take n p)) m (rw length-take (omega arith)) ∙ sym (lt-ltb (length p) m e))
     (λ (e : m ≤ length p). le-ltb (length (take n p)) m (rw length-take (omega arith)) ∙ sym (le-ltb (length p) m e))
-    (split (length p) m)
-  where
-    split : (a b : ℕ) → (a < b) ⊎ (b ≤ a)
-    split a zero = inr (omega arith)
-    split zero (suc b) = inl (omega arith)
-    split (suc a) (suc b) = ⊎-elim (λ x. inl (omega arith)) (λ x. inr (omega arith)) (split a b)
+    (below-or-not (length p) m)
 
 field-window : (w at : ℕ) (p : List ℕ) → at + w ≤ 48 → le w (drop at (take 48 p)) ≡ le w (drop at p)
 field-window w at p h = le-within w at 48 p h
@@ -81,42 +125,42 @@ module _ (p : List ℕ) where
       field-window 4 40 p (lit≤ tt), field-window 4 44 p (lit≤ tt))
 
   hello-window : (m : ModeOf) → helloOf (take 48 p) m ≡ helloOf p m
-  hello-window (MO.Is m) = rw (len-window, w0, w1, w2, unk-window) refl
+  hello-window (MO.Is m) = rw (w0, w1, w2, unk-window) refl
   hello-window MO.Bad = refl
 
   helloResp-window : (m : ModeOf) → helloRespOf (take 48 p) m ≡ helloRespOf p m
-  helloResp-window (MO.Is m) = rw (len-window, w0, w1, w2, unk-window) refl
+  helloResp-window (MO.Is m) = rw (w0, w1, w2, unk-window) refl
   helloResp-window MO.Bad = refl
 
   execResp-window : (c : CommandOf) → execRespOf (take 48 p) c ≡ execRespOf p c
-  execResp-window (CO.Is c) = rw (len-window, w1) refl
+  execResp-window (CO.Is c) = rw w1 refl
   execResp-window CO.Bad = refl
 
   execData-window : (c : CommandOf) → execDataOf (take 48 p) c ≡ execDataOf p c
-  execData-window (CO.Is c) = rw len-window refl
+  execData-window (CO.Is c) = refl
   execData-window CO.Bad = refl
 
   body-window : (k : SaharaCmd) → bodyOf (take 48 p) k ≡ bodyOf p k
   body-window K.Hello = rw (mode-window, hello-window (modeOf (le 4 (drop 20 p)))) refl
   body-window K.HelloResp = rw (mode-window, helloResp-window (modeOf (le 4 (drop 20 p)))) refl
-  body-window K.ReadData = simp (len-window, w0, w1, w2)
-  body-window K.EndOfImage = simp (len-window, w0, w1)
-  body-window K.Done = simp len-window
-  body-window K.DoneResp = simp (len-window, w0)
-  body-window K.ResetResp = simp len-window
-  body-window K.CommandReady = simp len-window
+  body-window K.ReadData = simp (w0, w1, w2)
+  body-window K.EndOfImage = simp (w0, w1)
+  body-window K.Done = refl
+  body-window K.DoneResp = simp (w0)
+  body-window K.ResetResp = refl
+  body-window K.CommandReady = refl
   body-window K.ExecuteResp = rw (w0, execResp-window (commandOf (le 4 (drop 8 p)))) refl
   body-window K.ExecuteData = rw (w0, execData-window (commandOf (le 4 (drop 8 p)))) refl
-  body-window K.MemDebug64 = simp (len-window, field-window 8 8 p (lit≤ tt), field-window 8 16 p (lit≤ tt))
-  body-window K.MemRead64 = simp (len-window, field-window 8 8 p (lit≤ tt), field-window 8 16 p (lit≤ tt))
-  body-window K.ReadData64 = simp (len-window, field-window 8 8 p (lit≤ tt), field-window 8 16 p (lit≤ tt), field-window 8 24 p (lit≤ tt))
+  body-window K.MemDebug64 = simp (field-window 8 8 p (lit≤ tt), field-window 8 16 p (lit≤ tt))
+  body-window K.MemRead64 = simp (field-window 8 8 p (lit≤ tt), field-window 8 16 p (lit≤ tt))
+  body-window K.ReadData64 = simp (field-window 8 8 p (lit≤ tt), field-window 8 16 p (lit≤ tt), field-window 8 24 p (lit≤ tt))
 
   kind-window : (k : SaharaCmd) → kindOf (take 48 p) k ≡ kindOf p k
   unfolding kindOf
   kind-window k = rw (short-window 48 (8 + leastBody k) p (least-fits k), body-window k) refl
 
   class-window : (c : Class) → byClass (take 48 p) c ≡ byClass p c
-  class-window (C.Kind k) = kind-window k
+  class-window (C.Kind k) = rw (len-window, kind-window k) refl
   class-window C.Xml = refl
   class-window C.Unimplemented = refl
   class-window C.Unknown = refl

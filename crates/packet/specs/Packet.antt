@@ -20,6 +20,10 @@ use Rattle.command.specs.declared.Class.the-variants as C
 use Rattle.packet.specs.declared.Unk.{Unk}
 use Rattle.packet.specs.declared.SaharaPacketBody.{SaharaPacketBody}
 use Rattle.packet.specs.declared.SaharaPacketBody.the-variants as B
+use Rattle.packet.specs.declared.HelloBody.{HelloBody}
+use Rattle.packet.specs.declared.HelloBody.the-variants as H
+use Rattle.packet.specs.declared.Body.{Body}
+use Rattle.packet.specs.declared.Body.the-variants as Y
 use Rattle.packet.specs.declared.Decoded.{Decoded}
 use Rattle.packet.specs.declared.Decoded.the-variants as D
 use Rattle.packet.specs.declared.LengthCheck.{LengthCheck}
@@ -39,58 +43,59 @@ word p k = le 4 (drop (8 + 4 * k) p)
 abbrev pub long : List ℕ → ℕ → ℕ
 long p k = le 8 (drop (8 + 8 * k) p)
 
--- a packet with this body; its length field is handed on
-abbrev pub packetIs : List ℕ → SaharaPacketBody → Decoded
-packetIs p b = D.Is (record { len = lengthField p; body = b })
-
 -- the six words behind a mode
 abbrev pub unkOf : List ℕ → Unk
 unkOf p = record { unk0 = word p 4; unk1 = word p 5; unk2 = word p 6; unk3 = word p 7; unk4 = word p 8; unk5 = word p 9 }
 
 -- "Hello: version, compatible, greatest length, mode, six unused words."
-abbrev pub helloOf : List ℕ → ModeOf → Decoded
+abbrev pub helloOf : List ℕ → ModeOf → Body
 helloOf p (MO.Is m) =
-    packetIs p (B.HelloReq (record { ver = word p 0; compatible = word p 1; «max_len» = word p 2; mode = m; unk = unkOf p }))
-helloOf p MO.Bad = D.Refused 9
+    Y.Is (B.HelloReq (record { ver = word p 0; compatible = word p 1; «max_len» = word p 2; mode = m; unk = unkOf p }))
+helloOf p MO.Bad = Y.Malformed
 
 -- "HelloResp: version, compatible, status, mode, six words."
-abbrev pub helloRespOf : List ℕ → ModeOf → Decoded
+abbrev pub helloRespOf : List ℕ → ModeOf → Body
 helloRespOf p (MO.Is m) =
-    packetIs p (B.HelloResp (record { ver = word p 0; compatible = word p 1; status = word p 2; mode = m; unk = unkOf p }))
-helloRespOf p MO.Bad = D.Refused 9
+    Y.Is (B.HelloResp (record { ver = word p 0; compatible = word p 1; status = word p 2; mode = m; unk = unkOf p }))
+helloRespOf p MO.Bad = Y.Malformed
 
 -- "ExecuteResp: command, length."
-abbrev pub execRespOf : List ℕ → CommandOf → Decoded
-execRespOf p (CO.Is c) = packetIs p (B.ExecResp (record { command = c; len = word p 1 }))
-execRespOf p CO.Bad = D.Refused 9
+abbrev pub execRespOf : List ℕ → CommandOf → Body
+execRespOf p (CO.Is c) = Y.Is (B.ExecResp (record { command = c; len = word p 1 }))
+execRespOf p CO.Bad = Y.Malformed
 
 -- "ExecuteData: command."
-abbrev pub execDataOf : List ℕ → CommandOf → Decoded
-execDataOf p (CO.Is c) = packetIs p (B.ExecData (record { command = c }))
-execDataOf p CO.Bad = D.Refused 9
+abbrev pub execDataOf : List ℕ → CommandOf → Body
+execDataOf p (CO.Is c) = Y.Is (B.ExecData (record { command = c }))
+execDataOf p CO.Bad = Y.Malformed
 
 -- the body of each kind, its least bytes being there
-abbrev pub bodyOf : List ℕ → SaharaCmd → Decoded
+abbrev pub bodyOf : List ℕ → SaharaCmd → Body
 bodyOf p K.Hello = helloOf p (modeOf (word p 3))
 bodyOf p K.HelloResp = helloRespOf p (modeOf (word p 3))
-bodyOf p K.ReadData = packetIs p (B.ReadReq (record { image = word p 0; offset = word p 1; len = word p 2 }))
-bodyOf p K.EndOfImage = packetIs p (B.Eoi (record { image = word p 0; status = word p 1 }))
-bodyOf p K.Done = packetIs p B.DoneReq
-bodyOf p K.DoneResp = packetIs p (B.DoneResp (record { status = word p 0 }))
-bodyOf p K.ResetResp = packetIs p B.ResetResp
-bodyOf p K.CommandReady = packetIs p B.CommandReady
+bodyOf p K.ReadData = Y.Is (B.ReadReq (record { image = word p 0; offset = word p 1; len = word p 2 }))
+bodyOf p K.EndOfImage = Y.Is (B.Eoi (record { image = word p 0; status = word p 1 }))
+bodyOf p K.Done = Y.Is B.DoneReq
+bodyOf p K.DoneResp = Y.Is (B.DoneResp (record { status = word p 0 }))
+bodyOf p K.ResetResp = Y.Is B.ResetResp
+bodyOf p K.CommandReady = Y.Is B.CommandReady
 bodyOf p K.ExecuteResp = execRespOf p (commandOf (word p 0))
 bodyOf p K.ExecuteData = execDataOf p (commandOf (word p 0))
-bodyOf p K.MemDebug64 = packetIs p (B.Debug64Req (record { addr = long p 0; len = long p 1 }))
-bodyOf p K.MemRead64 = packetIs p (B.ReadMem64Req (record { addr = long p 0; len = long p 1 }))
-bodyOf p K.ReadData64 = packetIs p (B.ReadData64Req (record { image = long p 0; offset = long p 1; len = long p 2 }))
+bodyOf p K.MemDebug64 = Y.Is (B.Debug64Req (record { addr = long p 0; len = long p 1 }))
+bodyOf p K.MemRead64 = Y.Is (B.ReadMem64Req (record { addr = long p 0; len = long p 1 }))
+bodyOf p K.ReadData64 = Y.Is (B.ReadData64Req (record { image = long p 0; offset = long p 1; len = long p 2 }))
 
--- a kind's body, or 9 where it is short
-unfoldable pub kindOf : List ℕ → SaharaCmd → Decoded
-kindOf p k = pick (ltb (length p) (8 + leastBody k)) (D.Refused 9) (bodyOf p k)
+-- a kind's body, malformed where it is short
+unfoldable pub kindOf : List ℕ → SaharaCmd → Body
+kindOf p k = pick (ltb (length p) (8 + leastBody k)) Y.Malformed (bodyOf p k)
+
+-- a packet with this body: its length field is handed on
+abbrev pub packetWith : ℕ → Body → Decoded
+packetWith len (Y.Is b) = D.Is (record { len = len; body = b })
+packetWith len Y.Malformed = D.Refused 9
 
 abbrev pub byClass : List ℕ → Class → Decoded
-byClass p (C.Kind k) = kindOf p k
+byClass p (C.Kind k) = packetWith (lengthField p) (kindOf p k)
 byClass p C.Xml = D.Refused 7
 byClass p C.Unimplemented = D.Refused 8
 byClass p C.Unknown = D.Refused 6
@@ -98,9 +103,33 @@ byClass p C.Unknown = D.Refused 6
 unfoldable pub decodeOf : List ℕ → Decoded
 decodeOf p = pick (ltb (length p) 8) (D.Refused 9) (byClass p (classOf (commandField p)))
 
+-- the kind of each body, which has 01's number
+abbrev pub kindIn : SaharaPacketBody → SaharaCmd
+kindIn (B.HelloReq b) = K.Hello
+kindIn (B.HelloResp b) = K.HelloResp
+kindIn (B.ReadReq b) = K.ReadData
+kindIn (B.Eoi b) = K.EndOfImage
+kindIn B.DoneReq = K.Done
+kindIn (B.DoneResp b) = K.DoneResp
+kindIn B.ResetResp = K.ResetResp
+kindIn B.CommandReady = K.CommandReady
+kindIn (B.ExecResp b) = K.ExecuteResp
+kindIn (B.ExecData b) = K.ExecuteData
+kindIn (B.Debug64Req b) = K.MemDebug64
+kindIn (B.ReadMem64Req b) = K.MemRead64
+kindIn (B.ReadData64Req b) = K.ReadData64
+
 -- the length rule of `sahara_read_packet`
 abbrev pub badLength : ℕ → Bool
 badLength n = pick (ltb n 8) true (ltb 4096 n)
 
 abbrev pub lengthChecked : ℕ → LengthCheck
 lengthChecked n = pick (badLength n) (L.Refused 5) L.Good
+
+-- the body of either hello, as it is read: the third word is a HelloResp's status, a Hello's greatest length
+abbrev pub helloWith : List ℕ → ModeOf → HelloBody
+helloWith p (MO.Is m) = H.Is (record { ver = word p 0; compatible = word p 1; status = word p 2; mode = m; unk = unkOf p })
+helloWith p MO.Bad = H.Malformed
+
+unfoldable pub helloIn : List ℕ → HelloBody
+helloIn p = pick (ltb (length p) 48) H.Malformed (helloWith p (modeOf (word p 3)))

@@ -11,11 +11,12 @@ use Rattle.utf8.specs.Classes.{follow, leadOf}
 use Rattle.utf8.specs.declared.Class.{Class}
 use Rattle.utf8.specs.declared.Class.the-variants as C
 
--- a test of two says each
+-- a test of two says the first
 pub both-left : (a b : Bool) → T (pick a b false) → T a
 both-left true b t = tt
 both-left false b t = t
 
+-- and the second
 pub both-right : (a b : Bool) → T (pick a b false) → T b
 both-right true b t = t
 both-right false b t = absurd t
@@ -25,6 +26,7 @@ abbrev pub every : (ℕ → Bool) → ℕ → ℕ → Bool
 every f lo zero = true
 every f lo (suc k) = pick (f lo) (every f (suc lo) k) false
 
+-- two numbers stand one way or the other
 split : (a b : ℕ) → (a ≤ b) ⊎ (b < a)
 split zero b = inl (omega arith)
 split (suc a) zero = inr (omega arith)
@@ -46,6 +48,7 @@ same C.Not (C.Is g) = false
 same (C.Is f) C.Not = false
 same (C.Is f) (C.Is g) = pick (eqb (f .more) (g .more)) (pick (eqb (f .low) (g .low)) (eqb (f .high) (g .high)) false) false
 
+-- classes that the test finds the same are equal
 pub same-eq : (a b : Class) → T (same a b) → a ≡ b
 same-eq C.Not C.Not t = refl
 same-eq C.Not (C.Is g) t = absurd t

@@ -33,11 +33,12 @@ unfolding afterFirst
 after-each P [] b e = e
 after-each P (r ∷ rs) b e = chosen P (within (r .first) b) (r .after) (afterFirst rs b) (e .0) (after-each P rs b (e .1))
 
--- the ranges that a class stands for
+-- the ranges of n bytes to come, the first of them low..high
 unfoldable pub pending : ℕ → ℕ → ℕ → List Range
 pending zero low high = []
 pending (suc n) low high = from low high ∷ pending n 0x80 0xBF
 
+-- the ranges that a class stands for
 abbrev pub rangesOf : Follow → List Range
 rangesOf f = pending (f .more) (f .low) (f .high)
 

@@ -1,0 +1,38 @@
+-- `packet::debug64_body` meets its contract: short, or each field read where the one before it ends. Assumes nothing.
+use mathlib.Core.Path.{_≡_, sym, ap, _∙_}
+use mathlib.Core.List.{List}
+use Prim.Native.Nat.{ℕ, _≤_, _<_}
+use native.Mathlib.Omega.{arith}
+use denote.Ref.{now}
+use lib.ListN.{length, drop}
+use Rattle.field.specs.Field.{le}
+use Rattle.command.specs.declared.SaharaCmd.the-variants as K
+use Rattle.packet.proofs.Laws.{moved, short-body, whole-body}
+use borrow.Author.Needs.{needs}
+use Rattle.packet.proofs.debug64_body.Statement.{statement}
+use Rattle.packet.proofs.debug64_body.Tie as tie
+
+returns : tie.Need-returns
+returns c =
+    let p : List ℕ = now (c .before .before .args .p) in
+    let l : length p < 24 = omega arith in
+    sym (short-body K.MemDebug64 p l)
+
+long-requires : tie.Need-long-requires
+long-requires c κs = search needs
+
+long-requires-2 : tie.Need-long-requires-2
+long-requires-2 c κs = search needs
+
+returns-2 : tie.Need-returns-2
+returns-2 c =
+    let p : List ℕ = now (c .before .before .before .before .args .p) in
+    let l : 24 ≤ length p = omega arith in
+    let v0 : c .before .long .result .value ≡ le 8 (drop 8 p) =
+        moved 8 (c .before .long .result .value) 8 8 p (c .before .long .ensures .0) (omega arith) in
+    let v1 : c .long2 .result .value ≡ le 8 (drop 16 p) =
+        moved 8 (c .long2 .result .value) (c .before .long .result .next .at) 16 p (c .long2 .ensures .0) (omega arith) in
+    cc (whole-body K.MemDebug64 p l)
+
+pub debug64-body-spec : {M : Type 1} → statement M
+debug64-body-spec = tie.close (tie.spec returns long-requires long-requires-2 returns-2)

@@ -1,0 +1,33 @@
+-- `packet::done_resp_body` meets its contract: short, or each field read where the one before it ends. Assumes nothing.
+use mathlib.Core.Path.{_≡_, sym, ap, _∙_}
+use mathlib.Core.List.{List}
+use Prim.Native.Nat.{ℕ, _≤_, _<_}
+use native.Mathlib.Omega.{arith}
+use denote.Ref.{now}
+use lib.ListN.{length, drop}
+use Rattle.field.specs.Field.{le}
+use Rattle.command.specs.declared.SaharaCmd.the-variants as K
+use Rattle.packet.proofs.Laws.{moved, short-body, whole-body}
+use borrow.Author.Needs.{needs}
+use Rattle.packet.proofs.done_resp_body.Statement.{statement}
+use Rattle.packet.proofs.done_resp_body.Tie as tie
+
+returns : tie.Need-returns
+returns c =
+    let p : List ℕ = now (c .before .before .args .p) in
+    let l : length p < 12 = omega arith in
+    sym (short-body K.DoneResp p l)
+
+word-requires : tie.Need-word-requires
+word-requires c κs = search needs
+
+returns-2 : tie.Need-returns-2
+returns-2 c =
+    let p : List ℕ = now (c .before .before .before .args .p) in
+    let l : 12 ≤ length p = omega arith in
+    let v0 : c .word .result .value ≡ le 4 (drop 8 p) =
+        moved 4 (c .word .result .value) 8 8 p (c .word .ensures .0) (omega arith) in
+    cc (whole-body K.DoneResp p l)
+
+pub done-resp-body-spec : {M : Type 1} → statement M
+done-resp-body-spec = tie.close (tie.spec returns word-requires returns-2)

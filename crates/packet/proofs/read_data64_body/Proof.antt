@@ -1,0 +1,44 @@
+-- `packet::read_data64_body` meets its contract: short, or each field read where the one before it ends. Assumes nothing.
+use mathlib.Core.Path.{_≡_, sym, ap, _∙_}
+use mathlib.Core.List.{List}
+use Prim.Native.Nat.{ℕ, _≤_, _<_}
+use native.Mathlib.Omega.{arith}
+use denote.Ref.{now}
+use lib.ListN.{length, drop}
+use Rattle.field.specs.Field.{le}
+use Rattle.command.specs.declared.SaharaCmd.the-variants as K
+use Rattle.packet.proofs.Laws.{moved, short-body, whole-body}
+use borrow.Author.Needs.{needs}
+use Rattle.packet.proofs.read_data64_body.Statement.{statement}
+use Rattle.packet.proofs.read_data64_body.Tie as tie
+
+returns : tie.Need-returns
+returns c =
+    let p : List ℕ = now (c .before .before .args .p) in
+    let l : length p < 32 = omega arith in
+    sym (short-body K.ReadData64 p l)
+
+long-requires : tie.Need-long-requires
+long-requires c κs = search needs
+
+long-requires-2 : tie.Need-long-requires-2
+long-requires-2 c κs = search needs
+
+long-requires-3 : tie.Need-long-requires-3
+long-requires-3 c κs = search needs
+
+returns-2 : tie.Need-returns-2
+returns-2 c =
+    let p : List ℕ = now (c .before .before .before .before .before .args .p) in
+    let l : 32 ≤ length p = omega arith in
+    let v0 : c .before .before .long .result .value ≡ le 8 (drop 8 p) =
+        moved 8 (c .before .before .long .result .value) 8 8 p (c .before .before .long .ensures .0) (omega arith) in
+    let v1 : c .before .long2 .result .value ≡ le 8 (drop 16 p) =
+        moved 8 (c .before .long2 .result .value) (c .before .before .long .result .next .at) 16 p (c .before .long2 .ensures .0) (omega arith) in
+    let v2 : c .long3 .result .value ≡ le 8 (drop 24 p) =
+        moved 8 (c .long3 .result .value) (c .before .long2 .result .next .at) 24 p (c .long3 .ensures .0) (omega arith) in
+    cc (whole-body K.ReadData64 p l)
+
+pub read-data64-body-spec : {M : Type 1} → statement M
+read-data64-body-spec =
+    tie.close (tie.spec returns long-requires long-requires-2 long-requires-3 returns-2)
