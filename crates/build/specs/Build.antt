@@ -15,14 +15,16 @@ use Rattle.build.specs.declared.Request.the-variants as Q
 use Rattle.build.specs.declared.Built.{Built}
 use Rattle.build.specs.declared.Built.the-variants as T
 
--- words and longs one after the other, 4 and 8 bytes each
-unfoldable pub words : List ℕ → List ℕ
-words [] = []
-words (v ∷ vs) = leBytes 4 v ++ words vs
+-- fields of w bytes one after the other; words of 4 bytes, longs of 8
+unfoldable pub fields : ℕ → List ℕ → List ℕ
+fields w [] = []
+fields w (v ∷ vs) = leBytes w v ++ fields w vs
 
-unfoldable pub longs : List ℕ → List ℕ
-longs [] = []
-longs (v ∷ vs) = leBytes 8 v ++ longs vs
+abbrev pub words : List ℕ → List ℕ
+words = fields 4
+
+abbrev pub longs : List ℕ → List ℕ
+longs = fields 8
 
 -- a packet: its command, its whole length, its body
 abbrev pub packetOf : ℕ → List ℕ → List ℕ

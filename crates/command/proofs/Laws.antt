@@ -7,7 +7,7 @@ use native.Mathlib.Omega.{arith}
 use borrow.Author.Tests.{ne-eqb}
 use lib.Dec.{T, ltb, ltb→lt}
 use Rattle.base.specs.Choice.{pick}
-use Rattle.base.proofs.Ranges.{both, both-left, both-right}
+use Rattle.base.proofs.Ranges.{both-left, both-right}
 use Rattle.command.specs.Command.{modeNumber, commandNumber, kindNumber, modeOf, commandOf, kinds, unimplemented, kindAmong, among, classOf}
 use Rattle.command.specs.declared.SaharaMode.{SaharaMode}
 use Rattle.command.specs.declared.SaharaMode.the-variants as M
@@ -55,7 +55,7 @@ kind-back K.ReadData64 = refl
 -- each of a list is below b
 abbrev pub below : ℕ → List ℕ → Bool
 below b [] = true
-below b (k ∷ ks) = both (ltb k b) (below b ks)
+below b (k ∷ ks) = pick (ltb k b) (below b ks) false
 
 -- a number that is not below b is none of them
 pub among-above : (b n : ℕ) (ks : List ℕ) → T (below b ks) → b ≤ n → among n ks ≡ false
@@ -66,7 +66,7 @@ among-above b n (k ∷ ks) t h =
 
 abbrev pub kindsBelow : ℕ → List SaharaCmd → Bool
 kindsBelow b [] = true
-kindsBelow b (k ∷ ks) = both (ltb (kindNumber k) b) (kindsBelow b ks)
+kindsBelow b (k ∷ ks) = pick (ltb (kindNumber k) b) (kindsBelow b ks) false
 
 pub kind-above : (b n : ℕ) (ks : List SaharaCmd) (other : Class) → T (kindsBelow b ks) → b ≤ n → kindAmong n ks other ≡ other
 kind-above b n [] other t h = refl

@@ -1,6 +1,6 @@
 -- The plain host. Document 01, "Plain host": "It sees no delivery. It is fed the session's opening, image set, names, buffer sizes, the device's
 -- opening bytes as one string, and its memory." Of the step it shares the verdict on one whole packet and the leaves, and knows nothing of its phases.
-use Prim.Native.Nat.{ℕ, zero, suc, _+_, _-_, _*_, _/_, _%_, min}
+use Prim.Native.Nat.{ℕ, zero, suc, _+_, _-_, _/_, _%_, min}
 use mathlib.Core.Bool.{Bool, true, false, not, _&&_}
 use mathlib.Core.List.{List, [], _∷_, _++_, map}
 use lib.Dec.{ltb, eqb}
@@ -92,10 +92,14 @@ chosen f names t (suc k) i =
 abbrev pub emptyIf : Bool → List Report
 emptyIf b = pick b (emptyRead ∷ []) []
 
+-- an empty read follows a chunk of n bytes
+abbrev pub emptyAfter : Opening → ℕ → Bool
+emptyAfter u n = onUsb u && eqb (n % 512) 0
+
 -- one chunk: n bytes at a
 abbrev pub chunk : Opening → (ℕ → ℕ) → ℕ → ℕ → List Report
 chunk u mem a n =
-    sent (bytesOf (Q.MemRead64 a n)) ∷ (map byte (bytesAt mem a n) ++ emptyIf (onUsb u && eqb (n % 512) 0))
+    sent (bytesOf (Q.MemRead64 a n)) ∷ (map byte (bytesAt mem a n) ++ emptyIf (emptyAfter u n))
 
 -- l bytes from a on; fuel: each chunk has at least one byte, so l is enough
 unfoldable pub chunks : Opening → (ℕ → ℕ) → ℕ → ℕ → ℕ → List Report

@@ -2,7 +2,7 @@
 -- slot = ID. The answer is the set's bytes offset..offset+length of that slot. The sum never wraps; length 0 at the image's end is accepted.
 -- Refusals, "Image range": 1; 12 no such or absent slot; 13 sum above the image's length.
 use Prim.Native.Nat.{ℕ, _+_}
-use mathlib.Core.Bool.{Bool, true, false}
+use mathlib.Core.Bool.{true}
 use mathlib.Core.List.{List}
 use lib.Dec.{leb, eqb}
 use lib.ListN.{take, drop}

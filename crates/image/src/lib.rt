@@ -1,8 +1,15 @@
 // The image range that a device's read asks for. An image ID and a slot number are different quantities.
 use bundle::Checked;
 use bundle::Slot;
+use bundle::check_images;
+use bundle::slot_at;
+use field::Field4;
+use field::u32_at;
 ghost use mathlib.Core.Path.{_≡_};
-ghost use Rattle.image.specs.Image.{slotFor, rangeOf};
+ghost use Prim.Native.Nat.{_+_, _<_, _≤_};
+ghost use lib.ListN.{length};
+ghost use Rattle.bundle.specs.Bundle.{countOf};
+ghost use Rattle.image.specs.Image.{slotFor, rangeIn, rangeOf};
 
 // The device's name for an image.
 pub struct ImageId(pub u64);
@@ -15,6 +22,54 @@ pub enum ImageRange {
     Refused(u8),
 }
 
-// fn slot_for(n: u32, id: ImageId) -> SlotNumber   (the one-image rule, the only conversion)
-// pub fn image_range(set: &[u8], id: ImageId, offset: u64, len: u64) -> ImageRange
-//     ensures { λ r. ⌜ r ≡ rangeOf (now (set .entry)) (id .0) offset len ⌝ }
+// The slot count of a set.
+fn count_of(set: &[u8]) -> u32
+    requires { ⌜ 8 ≤ length (now set) ⌝ }
+    ensures { λ r. ⌜ r ≡ countOf (now (set .entry)) ⌝ }
+{
+    match u32_at(set, 0) {
+        Field4::Is(n) => n,
+        Field4::Short => 0,
+    }
+}
+
+// The one-image rule, the only way from an image ID to a slot number.
+fn slot_for(n: u32, id: ImageId) -> SlotNumber
+    ensures { λ r. ⌜ r .0 ≡ slotFor n (id .0) ⌝ }
+{
+    if n == 1 {
+        return SlotNumber(0);
+    }
+    SlotNumber(id.0)
+}
+
+// A part of a slot's image.
+fn part_of(start: usize, size: usize, offset: u64, len: u64) -> ImageRange
+    requires { ⌜ start + size < 18446744073709551616 ⌝ }
+    ensures { λ r. ⌜ r ≡ rangeIn (Slot.At start size) offset len ⌝ }
+{
+    let from = offset as usize;
+    let count = len as usize;
+    if size < from {
+        return ImageRange::Refused(13);
+    }
+    if size - from < count {
+        return ImageRange::Refused(13);
+    }
+    ImageRange::At(start + from, count)
+}
+
+// Where the bytes that a read asks for stand in the set.
+pub fn image_range(set: &[u8], id: ImageId, offset: u64, len: u64) -> ImageRange
+    ensures { λ r. ⌜ r ≡ rangeOf (now (set .entry)) (id .0) offset len ⌝ }
+{
+    let Checked::Good = check_images(set) else {
+        return ImageRange::Refused(1);
+    };
+    let slot = slot_for(count_of(set), id);
+    match slot_at(set, slot.0 as usize) {
+        Slot::At(start, size) => part_of(start, size, offset, len),
+        Slot::Absent => ImageRange::Refused(12),
+        Slot::Missing => ImageRange::Refused(12),
+    }
+}

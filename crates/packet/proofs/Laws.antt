@@ -10,7 +10,7 @@ use borrow.Author.Tests.{le-ltb, lt-ltb, ltb-true, ltb-false}
 use lib.Dec.{ltb, lit≤}
 use lib.ListN.{length, take, drop, length-take}
 use Rattle.base.specs.Choice.{pick}
-use Rattle.base.proofs.Ranges.{below-or-not}
+use Rattle.base.proofs.Ranges.{below-or-not, by-test}
 use Rattle.field.specs.Field.{le}
 use Rattle.field.proofs.Laws.{le-within}
 use Rattle.command.specs.Command.{leastBody, modeOf, commandOf, classOf}
@@ -22,7 +22,7 @@ use Rattle.command.specs.declared.CommandOf.{CommandOf}
 use Rattle.command.specs.declared.CommandOf.the-variants as CO
 use Rattle.command.specs.declared.Class.{Class}
 use Rattle.command.specs.declared.Class.the-variants as C
-use Rattle.packet.specs.Packet.{commandField, unkOf, helloOf, helloRespOf, execRespOf, execDataOf, bodyOf, kindOf, helloWith, helloIn, byClass, decodeOf}
+use Rattle.packet.specs.Packet.{commandField, lengthField, kindIn, packetWith, unkOf, helloOf, helloRespOf, execRespOf, execDataOf, bodyOf, kindOf, helloWith, helloIn, byClass, decodeOf}
 use Rattle.packet.specs.declared.HelloBody.{HelloBody}
 use Rattle.packet.specs.declared.HelloBody.the-variants as H
 use Rattle.packet.specs.declared.SaharaPacketBody.the-variants as B
@@ -114,15 +114,19 @@ module _ (p : List ℕ) where
   w2 : le 4 (drop 16 (take 48 p)) ≡ le 4 (drop 16 p)
   w2 = field-window 4 16 p (lit≤ tt)
 
-
   mode-window : le 4 (drop 20 (take 48 p)) ≡ le 4 (drop 20 p)
   mode-window = field-window 4 20 p (lit≤ tt)
 
   unk-window : unkOf (take 48 p) ≡ unkOf p
   unk-window =
-      simp
-      (field-window 4 24 p (lit≤ tt), field-window 4 28 p (lit≤ tt), field-window 4 32 p (lit≤ tt), field-window 4 36 p (lit≤ tt),
-      field-window 4 40 p (lit≤ tt), field-window 4 44 p (lit≤ tt))
+      simp (
+        field-window 4 24 p (lit≤ tt),
+        field-window 4 28 p (lit≤ tt),
+        field-window 4 32 p (lit≤ tt),
+        field-window 4 36 p (lit≤ tt),
+        field-window 4 40 p (lit≤ tt),
+        field-window 4 44 p (lit≤ tt),
+      )
 
   hello-window : (m : ModeOf) → helloOf (take 48 p) m ≡ helloOf p m
   hello-window (MO.Is m) = rw (w0, w1, w2, unk-window) refl
@@ -169,3 +173,77 @@ module _ (p : List ℕ) where
   pub window : decodeOf (take 48 p) ≡ decodeOf p
   unfolding decodeOf
   window = rw (short-window 48 8 p (lit≤ tt), field-window 4 0 p (lit≤ tt), class-window (classOf (commandField p))) refl
+
+-- ---- what is accepted
+
+-- a body is of its kind
+abbrev kindOr : SaharaCmd → Body → SaharaCmd
+kindOr k (Y.Is b) = kindIn b
+kindOr k Y.Malformed = k
+
+body-kind : (p : List ℕ) (k : SaharaCmd) → kindOr k (bodyOf p k) ≡ k
+body-kind p K.Hello = go (modeOf (le 4 (drop 20 p)))
+  where
+    go : (m : ModeOf) → kindOr K.Hello (helloOf p m) ≡ K.Hello
+    go (MO.Is m) = refl
+    go MO.Bad = refl
+body-kind p K.HelloResp = go (modeOf (le 4 (drop 20 p)))
+  where
+    go : (m : ModeOf) → kindOr K.HelloResp (helloRespOf p m) ≡ K.HelloResp
+    go (MO.Is m) = refl
+    go MO.Bad = refl
+body-kind p K.ReadData = refl
+body-kind p K.EndOfImage = refl
+body-kind p K.Done = refl
+body-kind p K.DoneResp = refl
+body-kind p K.ResetResp = refl
+body-kind p K.CommandReady = refl
+body-kind p K.ExecuteResp = go (commandOf (le 4 (drop 8 p)))
+  where
+    go : (c : CommandOf) → kindOr K.ExecuteResp (execRespOf p c) ≡ K.ExecuteResp
+    go (CO.Is c) = refl
+    go CO.Bad = refl
+body-kind p K.ExecuteData = go (commandOf (le 4 (drop 8 p)))
+  where
+    go : (c : CommandOf) → kindOr K.ExecuteData (execDataOf p c) ≡ K.ExecuteData
+    go (CO.Is c) = refl
+    go CO.Bad = refl
+body-kind p K.MemDebug64 = refl
+body-kind p K.MemRead64 = refl
+body-kind p K.ReadData64 = refl
+
+-- an accepted packet: its command number is its kind's, its body has at least the kind's least bytes, its length field is handed on
+pub record Accepted (p : List ℕ) (q : SaharaPacket) : Type 0 where
+  pub kind : classOf (commandField p) ≡ C.Kind (kindIn (q .body))
+  pub least : 8 + leastBody (kindIn (q .body)) ≤ length p
+  pub len : q .len ≡ lengthField p
+
+module _ (p : List ℕ) (q : SaharaPacket) where
+  by-body : (k : SaharaCmd) (b : Body) → kindOr k b ≡ k → packetWith (lengthField p) b ≡ D.Is q → (kindIn (q .body) ≡ k) × (q .len ≡ lengthField p)
+  by-body k (Y.Is b) e h =
+      let r : record { len = lengthField p; body = b } ≡ q = cc in
+      rw (← r) (e, refl)
+  by-body k Y.Malformed e h = let z : _≡_ {A = ℕ} 0 1 = cc in absurd (omega arith)
+
+  never : (why : ℕ) → D.Refused why ≡ D.Is q → ⊥
+  never why h = let z : _≡_ {A = ℕ} 0 1 = cc in omega arith
+
+  by-kind : (k : SaharaCmd) → classOf (commandField p) ≡ C.Kind k → packetWith (lengthField p) (kindOf p k) ≡ D.Is q → Accepted p q
+  by-kind k c h =
+      ⊎-elim
+      (λ (l : length p < 8 + leastBody k). absurd (never 9 (rw (short-body k p l) at h)))
+      (λ (l : 8 + leastBody k ≤ length p).
+      let r = by-body k (bodyOf p k) (body-kind p k) (rw (whole-body k p l) at h) in
+      record { kind = rw (r .0) c; least = rw (r .0) l; len = r .1 })
+      (below-or-not (length p) (8 + leastBody k))
+
+  by-class : (c : Class) → classOf (commandField p) ≡ c → byClass p c ≡ D.Is q → Accepted p q
+  by-class (C.Kind k) c h = by-kind k c h
+  by-class C.Xml c h = absurd (never 7 h)
+  by-class C.Unimplemented c h = absurd (never 8 h)
+  by-class C.Unknown c h = absurd (never 6 h)
+
+  pub accepted : decodeOf p ≡ D.Is q → Accepted p q
+  unfolding decodeOf
+  accepted h =
+      by-test (ltb (length p) 8) (λ e. absurd (never 9 (rw e at h))) (λ e. by-class (classOf (commandField p)) refl (rw e at h))

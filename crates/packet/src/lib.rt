@@ -145,7 +145,10 @@ fn word(p: &[u8], c: Cursor) -> Taken4
     ensures { λ r. ⌜ (r .value ≡ le 4 (drop (c .at) (now (p .entry)))) × (r .next .at ≡ c .at + 4) ⌝ }
 {
     match read_u32(p, c) {
-        Word::Is(v, next) => Taken4 { value: v, next: next },
+        Word::Is(v, next) => Taken4 {
+            value: v,
+            next: next,
+        },
         Word::Short => Taken4 { value: 0, next: c },
     }
 }
@@ -155,7 +158,10 @@ fn long(p: &[u8], c: Cursor) -> Taken8
     ensures { λ r. ⌜ (r .value ≡ le 8 (drop (c .at) (now (p .entry)))) × (r .next .at ≡ c .at + 8) ⌝ }
 {
     match read_u64(p, c) {
-        Long::Is(v, next) => Taken8 { value: v, next: next },
+        Long::Is(v, next) => Taken8 {
+            value: v,
+            next: next,
+        },
         Long::Short => Taken8 { value: 0, next: c },
     }
 }

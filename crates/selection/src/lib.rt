@@ -1,12 +1,106 @@
 // Selection of table entries by preference or by name.
+use bundle::Slot;
+use bundle::slot_at;
+use entry::entry_at;
+use filename::stem_len;
 ghost use mathlib.Core.Path.{_≡_};
-ghost use Prim.Native.Nat.{_-_};
-ghost use Rattle.selection.specs.Selection.{low, selectedAt, nextOf};
+ghost use mathlib.Core.List.{map};
+ghost use Prim.Native.Nat.{_-_, _<_};
+ghost use lib.ListN.{getD};
+ghost use Rattle.bundle.specs.Bundle.{countOf};
+ghost use Rattle.selection.specs.Selection.{low, namesFrom, member, selectedAt, nextOf};
 
-// pub fn lower(b: u8) -> u8
-//     ensures { λ r. ⌜ r ≡ low b ⌝ }
-// pub fn is_selected(table: &[u8], i: usize, names: &[u8]) -> bool
-//     ensures { λ r. ⌜ r ≡ selectedAt 8 (now (names .entry)) (now (table .entry)) i ⌝ }
+// A letter of A..Z lowered; any other byte is itself.
+pub fn lower(b: u8) -> u8
+    ensures { λ r. ⌜ r ≡ low b ⌝ }
+{
+    if 0x41 <= b {
+        if b <= 0x5A {
+            return b + 0x20;
+        }
+    }
+    b
+}
+
+// A byte, 0 where there is none.
+fn byte_at(s: &[u8], at: usize) -> u32
+    ensures { λ r. ⌜ (r ≡ getD (now (s .entry)) at 0) × (r < 256) ⌝ }
+{
+    if s.len() <= at {
+        return 0;
+    }
+    s[at] as u32
+}
+
+// The slot count of a name list; a byte that is not there counts 0.
+fn count(names: &[u8]) -> u32
+    ensures { λ r. ⌜ r ≡ countOf (now (names .entry)) ⌝ }
+{
+    byte_at(names, 0)
+        + 256 * (byte_at(names, 1) + 256 * (byte_at(names, 2) + 256 * byte_at(names, 3)))
+}
+
+// Whether a stem is one of n names, both sides lowered. The search is left at the first that is.
+fn named(names: &[u8], n: usize, stem: &[u8]) -> bool
+    ensures { λ r. ⌜ r ≡ member (map low (now (stem .entry))) (map (map low) (namesFrom (now (names .entry)) n 0)) ⌝ }
+{
+    let mut found = false;
+    let mut i: usize = 0;
+    'names: while i < n {
+        let s = slot_at(names, i);
+        let Slot::At(start, size) = s else {
+            i += 1;
+            continue 'names;
+        };
+        if size != stem.len() {
+            i += 1;
+            continue 'names;
+        }
+        let mut j: usize = 0;
+        loop {
+            if stem.len() <= j {
+                found = true;
+                break 'names;
+            }
+            if lower(names[start + j]) != lower(stem[j]) {
+                i += 1;
+                continue 'names;
+            }
+            j += 1;
+        }
+    }
+    found
+}
+
+// Whether entry i of a table is there and selected.
+pub fn is_selected(table: &[u8], i: usize, names: &[u8]) -> bool
+    ensures { λ r. ⌜ r ≡ selectedAt 8 (now (names .entry)) (now (table .entry)) i ⌝ }
+{
+    let e = entry_at(table, i);
+    let there = e.there;
+    if !there {
+        return false;
+    }
+    let entry = e.entry;
+    let n = count(names) as usize;
+    if n == 0 {
+        return entry.save_pref != 0;
+    }
+    let filename = entry.filename;
+    let size = stem_len(&filename);
+    named(names, n, &filename[..size])
+}
+
 // The first selected entry from `from` on and before `entries`; `entries` where there is none (`from` where it is not below `entries`).
-// pub fn next_selected(table: &[u8], entries: usize, names: &[u8], from: usize) -> usize
-//     ensures { λ r. ⌜ r ≡ nextOf 8 (now (names .entry)) (now (table .entry)) (entries - from) from ⌝ }
+pub fn next_selected(table: &[u8], entries: usize, names: &[u8], from: usize) -> usize
+    ensures { λ r. ⌜ r ≡ nextOf 8 (now (names .entry)) (now (table .entry)) (entries - from) from ⌝ }
+{
+    let mut i = from;
+    while i < entries {
+        if is_selected(table, i, names) {
+            return i;
+        }
+        i += 1;
+    }
+    i
+}

@@ -15,7 +15,7 @@ use Rattle.utf8.specs.Classes.{follow, followOf, leadOf, nextOf}
 use Rattle.utf8.specs.declared.Follow.{Follow}
 use Rattle.utf8.specs.declared.Class.{Class}
 use Rattle.utf8.specs.declared.Class.the-variants as C
-use Rattle.utf8.proofs.Computed.{both-left, both-right}
+use Rattle.base.proofs.Ranges.{both-left, both-right}
 
 -- P holds of what each row has after its first byte
 abbrev Each : (List Range → Type 0) → List Row → Type 0

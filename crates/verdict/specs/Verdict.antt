@@ -6,8 +6,10 @@ use Prim.Native.Nat.{ℕ, min}
 use mathlib.Core.Bool.{Bool, true, false}
 use mathlib.Core.List.{List}
 use lib.Dec.{ltb, eqb}
+use lib.ListN.{length}
 use Rattle.base.specs.Choice.{pick}
 use Rattle.bundle.specs.Bundle.{countOf}
+use Rattle.command.specs.declared.SaharaCmdModeCmd.{SaharaCmdModeCmd}
 use Rattle.image.specs.Image.{rangeOf}
 use Rattle.image.specs.declared.ImageRange.{ImageRange}
 use Rattle.image.specs.declared.ImageRange.the-variants as R
@@ -32,30 +34,48 @@ abbrev pub imageFor : ImageRange → Verdict
 imageFor (R.At start k) = W.Image start k
 imageFor (R.Refused why) = W.Refused why
 
+-- "EndOfImage sends Done"; 14 end status not 0
+abbrev pub endFor : ℕ → Verdict
+endFor status = pick (eqb status 0) (W.Reply Q.Done) (W.Refused 14)
+
+-- the set has one slot; too few bytes for a slot count have none
+abbrev pub oneSlot : List ℕ → Bool
+oneSlot set = pick (ltb (length set) 4) false (eqb (countOf set) 1)
+
+-- "DoneResp finishes (1) if status is 1 or n = 1, else go"
+abbrev pub doneFor : List ℕ → ℕ → Verdict
+doneFor set status = pick (eqb status 1) (W.Finish 1) (pick (oneSlot set) (W.Finish 1) W.Pass)
+
 -- "CommandReady sends Execute"; 15 no command
 abbrev pub executeFor : ExecCommand → Verdict
 executeFor (X.Is c) = W.Reply (Q.Execute c)
 executeFor X.None = W.Refused 15
 
+-- "ExecuteResp sends ExecuteData with its command"; 16 response above the reply buffer
+abbrev pub responseFor : ℕ → SaharaCmdModeCmd → ℕ → Verdict
+responseFor rsize c k = pick (ltb rsize k) (W.Refused 16) (W.Respond c k)
+
 -- the most that a table may have: 65,536 and its buffer
 abbrev pub room : ℕ → ℕ
 room tsize = min 65536 tsize
 
--- by the kind; len is the length field, n the set's slot count, tsize and rsize the table and the reply buffer's sizes
+-- "MemDebug64 sends MemRead64 with its address and length"; 17 table above 65,536 or its buffer
+abbrev pub tableFor : ℕ → ℕ → ℕ → Verdict
+tableFor tsize a k = pick (ltb (room tsize) k) (W.Refused 17) (W.Debug a k)
+
+-- by the kind; len is the length field, tsize and rsize the table and the reply buffer's sizes
 abbrev pub onBody : Opening → List ℕ → ℕ → ℕ → ℕ → SaharaPacketBody → Verdict
 onBody o set tsize rsize len (B.HelloReq b) = exactly len 48 (W.Reply (Q.HelloResp (o .mode)))
 onBody o set tsize rsize len (B.HelloResp b) = W.Refused 10
 onBody o set tsize rsize len (B.ReadReq b) = exactly len 20 (imageFor (rangeOf set (b .image) (b .offset) (b .len)))
-onBody o set tsize rsize len (B.Eoi b) = exactly len 16 (pick (eqb (b .status) 0) (W.Reply Q.Done) (W.Refused 14))
+onBody o set tsize rsize len (B.Eoi b) = exactly len 16 (endFor (b .status))
 onBody o set tsize rsize len B.DoneReq = W.Refused 10
-onBody o set tsize rsize len (B.DoneResp b) =
-    pick (eqb (b .status) 1) (W.Finish 1) (pick (eqb (countOf set) 1) (W.Finish 1) W.Pass)
+onBody o set tsize rsize len (B.DoneResp b) = doneFor set (b .status)
 onBody o set tsize rsize len B.ResetResp = exactly len 8 (W.Finish 2)
 onBody o set tsize rsize len B.CommandReady = exactly len 8 (executeFor (o .command))
-onBody o set tsize rsize len (B.ExecResp b) = pick (ltb rsize (b .len)) (W.Refused 16) (W.Respond (b .command) (b .len))
+onBody o set tsize rsize len (B.ExecResp b) = responseFor rsize (b .command) (b .len)
 onBody o set tsize rsize len (B.ExecData b) = W.Refused 10
-onBody o set tsize rsize len (B.Debug64Req b) =
-    exactly len 24 (pick (ltb (room tsize) (b .len)) (W.Refused 17) (W.Debug (b .addr) (b .len)))
+onBody o set tsize rsize len (B.Debug64Req b) = exactly len 24 (tableFor tsize (b .addr) (b .len))
 onBody o set tsize rsize len (B.ReadMem64Req b) = W.Refused 10
 onBody o set tsize rsize len (B.ReadData64Req b) = exactly len 32 (imageFor (rangeOf set (b .image) (b .offset) (b .len)))
 

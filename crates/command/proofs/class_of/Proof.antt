@@ -97,23 +97,24 @@ returns-18 c =
     let n : ℕ = c .before .before .before .args .command in
     let r = c .before .before .match .rest in
     let e : among n (1 ∷ 2 ∷ 3 ∷ 4 ∷ 5 ∷ 6 ∷ 8 ∷ 11 ∷ 14 ∷ 15 ∷ 16 ∷ 17 ∷ 18 ∷ 7 ∷ []) ≡ false =
-        simp
-        (ne-eqb n 1 (λ q. r .0 .0 .0 .0 .0 .0 .0 .0 .0 .0 .0 .0 .0 .0 .1 q),
-        ne-eqb n 2 (λ q. r .0 .0 .0 .0 .0 .0 .0 .0 .0 .0 .0 .0 .0 .1 q),
-        ne-eqb n 3 (λ q. r .0 .0 .0 .0 .0 .0 .0 .0 .0 .0 .0 .0 .1 q),
-        ne-eqb n 4 (λ q. r .0 .0 .0 .0 .0 .0 .0 .0 .0 .0 .0 .1 q),
-        ne-eqb n 5 (λ q. r .0 .0 .0 .0 .0 .0 .0 .0 .0 .0 .1 q),
-        ne-eqb n 6 (λ q. r .0 .0 .0 .0 .0 .0 .0 .0 .0 .1 q),
-        ne-eqb n 8 (λ q. r .0 .0 .0 .0 .0 .0 .0 .0 .1 q),
-        ne-eqb n 11 (λ q. r .0 .0 .0 .0 .0 .0 .0 .1 q),
-        ne-eqb n 14 (λ q. r .0 .0 .0 .0 .0 .0 .1 q),
-        ne-eqb n 15 (λ q. r .0 .0 .0 .0 .0 .1 q),
-        ne-eqb n 16 (λ q. r .0 .0 .0 .0 .1 q),
-        ne-eqb n 17 (λ q. r .0 .0 .0 .1 q),
-        ne-eqb n 18 (λ q. r .0 .0 .1 q),
-        ne-eqb n 7 (λ q. r .1 q)) in
+    simp (
+      ne-eqb n 1 (λ q. r .0 .0 .0 .0 .0 .0 .0 .0 .0 .0 .0 .0 .0 .0 .1 q),
+      ne-eqb n 2 (λ q. r .0 .0 .0 .0 .0 .0 .0 .0 .0 .0 .0 .0 .0 .1 q),
+      ne-eqb n 3 (λ q. r .0 .0 .0 .0 .0 .0 .0 .0 .0 .0 .0 .0 .1 q),
+      ne-eqb n 4 (λ q. r .0 .0 .0 .0 .0 .0 .0 .0 .0 .0 .0 .1 q),
+      ne-eqb n 5 (λ q. r .0 .0 .0 .0 .0 .0 .0 .0 .0 .0 .1 q),
+      ne-eqb n 6 (λ q. r .0 .0 .0 .0 .0 .0 .0 .0 .0 .1 q),
+      ne-eqb n 8 (λ q. r .0 .0 .0 .0 .0 .0 .0 .0 .1 q),
+      ne-eqb n 11 (λ q. r .0 .0 .0 .0 .0 .0 .0 .1 q),
+      ne-eqb n 14 (λ q. r .0 .0 .0 .0 .0 .0 .1 q),
+      ne-eqb n 15 (λ q. r .0 .0 .0 .0 .0 .1 q),
+      ne-eqb n 16 (λ q. r .0 .0 .0 .0 .1 q),
+      ne-eqb n 17 (λ q. r .0 .0 .0 .1 q),
+      ne-eqb n 18 (λ q. r .0 .0 .1 q),
+      ne-eqb n 7 (λ q. r .1 q),
+    ) in
     unimplemented-is _
-    (rw e at (in-range (λ (m : ℕ). pick (among m (1 ∷ 2 ∷ 3 ∷ 4 ∷ 5 ∷ 6 ∷ 8 ∷ 11 ∷ 14 ∷ 15 ∷ 16 ∷ 17 ∷ 18 ∷ 7 ∷ [])) true (isUnimplemented (classOf m))) 20 1 n tt (omega arith) (omega arith)))
+    (rw e at (in-range (λ (m : ℕ). pick (among m (1 ∷ 2 ∷ 3 ∷ 4 ∷ 5 ∷ 6 ∷ 8 ∷ 11 ∷ 14 ∷ 15 ∷ 16 ∷ 17 ∷ 18 ∷ 7 ∷ [])) true (isUnimplemented (classOf m))) 1 20 n tt (omega arith) (omega arith)))
 
 pub class-of-spec : {M : Type 1} → statement M
 class-of-spec =

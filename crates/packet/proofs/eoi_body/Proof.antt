@@ -29,9 +29,9 @@ returns-2 c =
     let p : List ℕ = now (c .before .before .before .before .args .p) in
     let l : 16 ≤ length p = omega arith in
     let v0 : c .before .word .result .value ≡ le 4 (drop 8 p) =
-        moved 4 (c .before .word .result .value) 8 8 p (c .before .word .ensures .0) (omega arith) in
+    moved 4 (c .before .word .result .value) 8 8 p (c .before .word .ensures .0) (omega arith) in
     let v1 : c .word2 .result .value ≡ le 4 (drop 12 p) =
-        moved 4 (c .word2 .result .value) (c .before .word .result .next .at) 12 p (c .word2 .ensures .0) (omega arith) in
+    moved 4 (c .word2 .result .value) (c .before .word .result .next .at) 12 p (c .word2 .ensures .0) (omega arith) in
     cc (whole-body K.EndOfImage p l)
 
 pub eoi-body-spec : {M : Type 1} → statement M

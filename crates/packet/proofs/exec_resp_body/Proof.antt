@@ -43,9 +43,9 @@ returns-2 c =
     let p : List ℕ = now (c .before .before .before .before .before .before .before .before .args .p) in
     let l : 16 ≤ length p = omega arith in
     let v0 : c .before .before .before .before .before .word .result .value ≡ le 4 (drop 8 p) =
-        moved 4 (c .before .before .before .before .before .word .result .value) 8 8 p (c .before .before .before .before .before .word .ensures .0) (omega arith) in
+    moved 4 (c .before .before .before .before .before .word .result .value) 8 8 p (c .before .before .before .before .before .word .ensures .0) (omega arith) in
     let v1 : c .before .before .before .before .word2 .result .value ≡ le 4 (drop 12 p) =
-        moved 4 (c .before .before .before .before .word2 .result .value) (c .before .before .before .before .before .word .result .next .at) 12 p (c .before .before .before .before .word2 .ensures .0) (omega arith) in
+    moved 4 (c .before .before .before .before .word2 .result .value) (c .before .before .before .before .before .word .result .next .at) 12 p (c .before .before .before .before .word2 .ensures .0) (omega arith) in
     let e : commandOf (le 4 (drop 8 p)) ≡ CO.Is (c .before .c .given .0 .0) = ap commandOf (sym v0) ∙ cc in
     simp (le-ltb _ _ l, e) cc
 
@@ -55,9 +55,9 @@ returns-3 c =
     let p : List ℕ = now (c .before .before .before .before .before .before .before .args .p) in
     let l : 16 ≤ length p = omega arith in
     let v0 : c .before .before .before .before .word .result .value ≡ le 4 (drop 8 p) =
-        moved 4 (c .before .before .before .before .word .result .value) 8 8 p (c .before .before .before .before .word .ensures .0) (omega arith) in
+    moved 4 (c .before .before .before .before .word .result .value) 8 8 p (c .before .before .before .before .word .ensures .0) (omega arith) in
     let v1 : c .before .before .before .word2 .result .value ≡ le 4 (drop 12 p) =
-        moved 4 (c .before .before .before .word2 .result .value) (c .before .before .before .before .word .result .next .at) 12 p (c .before .before .before .word2 .ensures .0) (omega arith) in
+    moved 4 (c .before .before .before .word2 .result .value) (c .before .before .before .before .word .result .next .at) 12 p (c .before .before .before .word2 .ensures .0) (omega arith) in
     let e : commandOf (le 4 (drop 8 p)) ≡ CO.Bad = ap commandOf (sym v0) ∙ cc in
     simp (le-ltb _ _ l, e)
 

@@ -55,7 +55,7 @@ returns-2 c =
     let l : 8 ≤ length p = omega arith in
     let e : classOf (le 4 (drop 0 p)) ≡ C.Kind (c .before .before .before .k .given .0 .0) = ap classOf (sym (c .before .before .before .before .before .before .before .word .ensures .0)) ∙ cc in
     let v : c .before .before .before .before .before .before .word2 .result .value ≡ le 4 (drop 4 p) =
-        moved 4 (c .before .before .before .before .before .before .word2 .result .value) (c .before .before .before .before .before .before .before .word .result .next .at) 4 p (c .before .before .before .before .before .before .word2 .ensures .0) (omega arith) in
+    moved 4 (c .before .before .before .before .before .before .word2 .result .value) (c .before .before .before .before .before .before .before .word .result .next .at) 4 p (c .before .before .before .before .before .before .word2 .ensures .0) (omega arith) in
     simp (le-ltb _ _ l, e) cc
 
 returns-3 : tie.Need-returns-3

@@ -1,0 +1,66 @@
+-- Laws of the packets that are built: their sizes, the front of the out buffer, the two outcomes of a build. Assumes nothing.
+use mathlib.Core.Path.{_≡_, refl, sym, ap, _∙_}
+use mathlib.Core.List.{List, _++_}
+use Prim.Native.Nat.{ℕ, _<_, _≤_}
+use native.Mathlib.Omega.{arith}
+use borrow.Author.Tests.{lt-ltb, le-ltb}
+use lib.ListN.{length, take, drop, length-append, length-drop}
+use lib.Seq.{sets, take-at, drop-at}
+use Rattle.base.proofs.Lists.{sets-front}
+use Rattle.field.specs.Field.{leBytes}
+use Rattle.build.specs.Build.{fields, bytesOf, sizeOf, front, outcome, buildOf}
+use Rattle.build.specs.declared.Request.{Request}
+use Rattle.build.specs.declared.Request.the-variants as Q
+use Rattle.build.specs.declared.Built.the-variants as T
+
+-- a packet has the size that 01 gives
+pub length-bytes : (q : Request) → length (bytesOf q) ≡ sizeOf q
+unfolding bytesOf fields leBytes
+length-bytes (Q.HelloResp m) = refl
+length-bytes Q.Done = refl
+length-bytes (Q.Execute c) = refl
+length-bytes (Q.ExecuteData c) = refl
+length-bytes Q.SwitchMode = refl
+length-bytes Q.Reset = refl
+length-bytes (Q.MemRead64 a k) = refl
+
+-- no packet is longer than 48 bytes
+pub size-most : (q : Request) → sizeOf q ≤ 48
+size-most (Q.HelloResp m) = omega arith
+size-most Q.Done = omega arith
+size-most (Q.Execute c) = omega arith
+size-most (Q.ExecuteData c) = omega arith
+size-most Q.SwitchMode = omega arith
+size-most Q.Reset = omega arith
+size-most (Q.MemRead64 a k) = omega arith
+
+-- the bytes to be sent are the packet's
+pub take-front : (q : Request) (o : List ℕ) → take (sizeOf q) (front q o) ≡ bytesOf q
+take-front q o = take-at (bytesOf q) _ (sizeOf q) (length-bytes q)
+
+-- those behind them are as they were
+pub drop-front : (q : Request) (o : List ℕ) → drop (sizeOf q) (front q o) ≡ drop (sizeOf q) o
+drop-front q o = drop-at (bytesOf q) _ (sizeOf q) (length-bytes q)
+
+-- the out buffer stays as long as it was
+pub length-front : (q : Request) (o : List ℕ) → sizeOf q ≤ length o → length (front q o) ≡ length o
+length-front q o h = simp (length-append, length-drop, length-bytes q) (omega arith)
+
+-- a packet stored at 0 is the front
+pub stored-front : (q : Request) (o : List ℕ) → sizeOf q ≤ length o → sets o 0 (bytesOf q) ≡ front q o
+stored-front q o h = sets-front (bytesOf q) o (rw length-bytes h) ∙ ap (λ (k : ℕ). bytesOf q ++ drop k o) (length-bytes q)
+
+-- refused below 48 bytes, else built
+pub build-short : (q : Request) (o : List ℕ) → length o < 48 → buildOf q o ≡ outcome (T.Refused 3) o
+unfolding buildOf
+build-short q o h = simp (lt-ltb _ _ h)
+
+pub build-long : (q : Request) (o : List ℕ) → 48 ≤ length o → buildOf q o ≡ outcome (T.Send (sizeOf q)) (front q o)
+unfolding buildOf
+build-long q o h = simp (le-ltb _ _ h)
+
+-- so a packet stored at 0 is what the build leaves
+pub builds : (q : Request) (o e : List ℕ) → 48 ≤ length o → e ≡ sets o 0 (bytesOf q) → outcome (T.Send (sizeOf q)) e ≡ buildOf q o
+builds q o e h s =
+    let m : sizeOf q ≤ 48 = size-most q in
+    ap (outcome (T.Send (sizeOf q))) (s ∙ stored-front q o (omega arith)) ∙ sym (build-long q o h)

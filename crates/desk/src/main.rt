@@ -1,0 +1,138 @@
+// Reads standard input as deliveries of 4,096 bytes, each used up before the next is read, and prints a line a step: bytes taken, answer, number.
+use command::SaharaMode;
+use session::Answer;
+use session::Session;
+use verdict::ExecCommand;
+use verdict::QdlBackend;
+ghost use Prim.Native.Nat.{_≤_};
+ghost use lib.ListN.{length};
+
+// What is left of the delivery, and whether the input is over.
+struct Feed {
+    from: usize,
+    to: usize,
+    over: bool,
+}
+
+fn line(taken: usize, word: &[u8], number: u64) {
+    io::print_decimal(1, taken as u64);
+    io::write_all(1, word);
+    io::print_decimal(1, number);
+    io::write_all(1, b"\n");
+}
+
+// Prints a step; true where the session goes on.
+fn told(taken: usize, a: Answer) -> bool {
+    match a {
+        Answer::Go => {
+            line(taken, b" go ", 0);
+            true
+        }
+        Answer::Send(k) => {
+            line(taken, b" send ", k as u64);
+            true
+        }
+        Answer::Image(_, k) => {
+            line(taken, b" image ", k as u64);
+            true
+        }
+        Answer::Open(i) => {
+            line(taken, b" open ", i as u64);
+            true
+        }
+        Answer::Bytes(k) => {
+            line(taken, b" bytes ", k as u64);
+            true
+        }
+        Answer::EmptyRead => {
+            line(taken, b" empty read ", 0);
+            true
+        }
+        Answer::Close(i) => {
+            line(taken, b" close ", i as u64);
+            true
+        }
+        Answer::Finished(how, _) => {
+            line(taken, b" finished ", how as u64);
+            false
+        }
+        Answer::Refused(why) => {
+            line(taken, b" refused ", why as u64);
+            false
+        }
+    }
+}
+
+// The next delivery, where this one is used up.
+fn refill(delivery: &mut [u8], f: Feed) -> Feed
+    requires { ⌜ (f .from ≤ f .to) × (f .to ≤ length (now delivery)) ⌝ }
+    ensures { λ r. ⌜ (r .from ≤ r .to) × (r .to ≤ length (now (delivery .exit))) ⌝ }
+{
+    if f.from < f.to {
+        return f;
+    }
+    if f.over {
+        return f;
+    }
+    let n = io::read_full(0, delivery);
+    Feed {
+        from: 0,
+        to: n,
+        over: n == 0,
+    }
+}
+
+fn least(a: usize, b: usize) -> usize
+    ensures { λ r. ⌜ (r ≤ a) × (r ≤ b) ⌝ }
+{
+    if a < b { a } else { b }
+}
+
+fn run(delivery: &mut [u8], table: &mut [u8], reply: &mut [u8], out: &mut [u8]) {
+    let mut s = host::open(
+        SaharaMode::WaitingForImage,
+        ExecCommand::None,
+        QdlBackend::Serial,
+    );
+    let mut f = Feed {
+        from: 0,
+        to: 0,
+        over: false,
+    };
+    let none = b"\0\0\0\0\0\0\0\0";
+    let mut turns: u64 = 0;
+    while turns < 18446744073709551615 {
+        turns += 1;
+        f = refill(delivery, f);
+        if f.over {
+            if host::needs_bytes(s) {
+                let r = host::closed(s);
+                let a = r.answer;
+                told(0, a);
+                return;
+            }
+        }
+        let from = f.from;
+        let to = f.to;
+        let r = host::step(s, &delivery[from..to], none, none, table, reply, out);
+        let a = r.answer;
+        let taken = r.taken;
+        if !told(taken, a) {
+            return;
+        }
+        f = Feed {
+            from: from + least(taken, to - from),
+            to: to,
+            over: f.over,
+        };
+        s = r.session;
+    }
+}
+
+fn main() {
+    let mut delivery = [0u8; 4096];
+    let mut table = [0u8; 65536];
+    let mut reply = [0u8; 4096];
+    let mut out = [0u8; 48];
+    run(&mut delivery, &mut table, &mut reply, &mut out);
+}

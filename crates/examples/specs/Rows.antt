@@ -1,0 +1,141 @@
+-- The computed table. Document 01, "Lengths, modes and stems": "To be proved together, as one computed table". A row has what the definitions give and what
+-- 01 says. The theorem is `table` of proofs/Table.antt.
+use Prim.Native.Nat.{ℕ, _+_}
+use mathlib.Core.Bool.{Bool, true, false}
+use mathlib.Core.List.{List, [], _∷_, _++_}
+use lib.ListN.{length, replicate}
+use Rattle.base.specs.Choice.{pick}
+use Rattle.field.specs.Field.{leBytes}
+use Rattle.command.specs.declared.SaharaMode.the-variants as M
+use Rattle.packet.specs.Packet.{decodeOf, lengthChecked}
+use Rattle.packet.specs.declared.Decoded.{Decoded}
+use Rattle.packet.specs.declared.Decoded.the-variants as D
+use Rattle.packet.specs.declared.LengthCheck.{LengthCheck}
+use Rattle.packet.specs.declared.LengthCheck.the-variants as L
+use Rattle.image.specs.Image.{rangeOf}
+use Rattle.image.specs.declared.ImageRange.{ImageRange}
+use Rattle.image.specs.declared.ImageRange.the-variants as R
+use Rattle.selection.specs.Selection.{same, selected}
+use Rattle.verdict.specs.Verdict.{verdictOf}
+use Rattle.verdict.specs.declared.ExecCommand.the-variants as X
+use Rattle.verdict.specs.declared.QdlBackend.the-variants as U
+use Rattle.verdict.specs.declared.Opening.{Opening}
+use Rattle.verdict.specs.declared.Verdict.{Verdict}
+use Rattle.verdict.specs.declared.Verdict.the-variants as W
+
+-- what a row says: accepted, refused with a number, finished with a number, bytes of a set, a stem that matches or not
+pub data Says : Type 0 where
+  ok : Says
+  refused : ℕ → Says
+  finish : ℕ → Says
+  given : ℕ → ℕ → Says
+  matches : Bool → Says
+
+-- a saying as numbers: which it is, and its values
+abbrev pub numbers : Says → List ℕ
+numbers ok = 0 ∷ []
+numbers (refused why) = 1 ∷ why ∷ []
+numbers (finish how) = 2 ∷ how ∷ []
+numbers (given start k) = 3 ∷ start ∷ k ∷ []
+numbers (matches true) = 4 ∷ 1 ∷ []
+numbers (matches false) = 4 ∷ 0 ∷ []
+
+-- ---- how each operation's answer is said
+
+abbrev pub ofLength : LengthCheck → Says
+ofLength L.Good = ok
+ofLength (L.Refused why) = refused why
+
+abbrev pub ofDecoded : Decoded → Says
+ofDecoded (D.Is p) = ok
+ofDecoded (D.Refused why) = refused why
+
+abbrev pub ofVerdict : Verdict → Says
+ofVerdict (W.Reply q) = ok
+ofVerdict (W.Image x k) = given x k
+ofVerdict W.Pass = ok
+ofVerdict (W.Finish how) = finish how
+ofVerdict (W.Respond c k) = ok
+ofVerdict (W.Debug a k) = ok
+ofVerdict (W.Refused why) = refused why
+
+abbrev pub ofRange : ImageRange → Says
+ofRange (R.At x k) = given x k
+ofRange (R.Refused why) = refused why
+
+-- ---- the inputs
+
+-- a packet of a command, a length and body bytes
+abbrev pub packet : ℕ → ℕ → List ℕ → List ℕ
+packet cmd len body = leBytes 4 cmd ++ (leBytes 4 len ++ body)
+
+-- a hello of a length and a mode
+abbrev pub hello : ℕ → ℕ → List ℕ → List ℕ
+hello len mode rest = packet 1 len (leBytes 4 2 ++ (leBytes 4 1 ++ (leBytes 4 0 ++ (leBytes 4 mode ++ (replicate 24 0 ++ rest)))))
+
+abbrev pub plainOpening : Opening
+plainOpening = record { mode = M.WaitingForImage; command = X.None; backend = U.Serial }
+
+-- a set of no image, of one of 10 bytes, and of two
+abbrev pub none : List ℕ
+none = replicate 8 0
+
+abbrev pub ten : List ℕ
+ten = leBytes 4 1 ++ (leBytes 4 10 ++ (leBytes 4 0 ++ (leBytes 4 10 ++ replicate 10 7)))
+
+abbrev pub two : List ℕ
+two = leBytes 4 2 ++ (leBytes 4 10 ++ (leBytes 4 0 ++ (leBytes 4 5 ++ (leBytes 4 5 ++ (leBytes 4 5 ++ replicate 10 7)))))
+
+abbrev pub judged : List ℕ → Says
+judged p = ofVerdict (verdictOf plainOpening none 65536 4096 p)
+
+-- a list of one name, and an entry with a filename
+abbrev pub name : List ℕ → List ℕ
+name s = leBytes 4 1 ++ (leBytes 4 (length s) ++ (leBytes 4 0 ++ (leBytes 4 (length s) ++ s)))
+
+abbrev pub entry : List ℕ → List ℕ
+entry file = replicate 44 0 ++ (file ++ replicate 20 0)
+
+-- "OCIMEM.BIN", "ocimem", "DDRCS0", "ddrcs0"
+abbrev pub OCIMEM·BIN : List ℕ
+OCIMEM·BIN = 79 ∷ 67 ∷ 73 ∷ 77 ∷ 69 ∷ 77 ∷ 46 ∷ 66 ∷ 73 ∷ 78 ∷ []
+
+abbrev pub ocimem : List ℕ
+ocimem = 111 ∷ 99 ∷ 105 ∷ 109 ∷ 101 ∷ 109 ∷ []
+
+abbrev pub DDRCS0 : List ℕ
+DDRCS0 = 68 ∷ 68 ∷ 82 ∷ 67 ∷ 83 ∷ 48 ∷ []
+
+abbrev pub ddrcs0 : List ℕ
+ddrcs0 = 100 ∷ 100 ∷ 114 ∷ 99 ∷ 115 ∷ 48 ∷ []
+
+-- ---- the table
+
+pub record Row : Type 0 where
+  pub gives : Says
+  pub says : Says
+
+abbrev pub row : Says → Says → Row
+row g s = record { gives = g; says = s }
+
+unfoldable pub rows : List Row
+rows =
+    row (ofLength (lengthChecked 7)) (refused 5)
+    ∷ row (ofLength (lengthChecked 8)) ok
+    ∷ row (ofLength (lengthChecked 4096)) ok
+    ∷ row (ofLength (lengthChecked 4097)) (refused 5)
+    ∷ row (ofDecoded (decodeOf (hello 48 1 []))) (refused 9)
+    ∷ row (judged (hello 49 0 (0 ∷ []))) (refused 11)
+    ∷ row (judged (packet 6 16 (leBytes 4 1 ++ replicate 4 0))) (finish 1)
+    ∷ row (ofRange (rangeOf ten 0 4 6)) (given (16 + 4) 6)
+    ∷ row (ofRange (rangeOf ten 0 4 7)) (refused 13)
+    ∷ row (ofRange (rangeOf ten 0 10 0)) (given (16 + 10) 0)
+    ∷ row (ofRange (rangeOf ten 9 0 10)) (given 16 10)
+    ∷ row (ofRange (rangeOf two 9 0 1)) (refused 12)
+    ∷ row (matches (selected 8 (name ocimem) (entry OCIMEM·BIN))) (matches true)
+    ∷ row (matches (selected 8 (name ddrcs0) (entry DDRCS0))) (matches false)
+    ∷ []
+
+abbrev pub all : List Row → Bool
+all [] = true
+all (r ∷ rs) = pick (same (numbers (r .gives)) (numbers (r .says))) (all rs) false

@@ -1,0 +1,1 @@
+// The worked examples of the requirement, computed over the definitions: no code.

@@ -1,0 +1,224 @@
+-- Between regions: a step keeps the invariant. The search for the next selected entry, over the table buffer, finds the first of the plain host's
+-- chosen ones, by induction on the entries left. Assumes nothing.
+use mathlib.Core.Path.{_≡_, refl, sym, ap, _∙_}
+use mathlib.Core.Bool.{true, false, _||_}
+use mathlib.Core.List.{List, [], _∷_, _++_, append-nil}
+use Prim.Native.Nat.{ℕ, zero, suc, _+_, _-_, _*_, _/_, _^_, _≤_, _<_}
+use native.Mathlib.Omega.{arith}
+use native.Mathlib.Nat.{add-zero, sub-zero, mul-comm, le-div-iff-mul-le}
+use lib.Dec.{ltb}
+use lib.ListN.{length, take}
+use borrow.Author.Tests.{ltb-true, ltb-false, le-ltb, le-leb}
+use Rattle.base.proofs.Ranges.{by-test}
+use Rattle.entry.specs.Entry.{entrySize, entryOf, baseOf, lengthOf, filenameOf, there}
+use Rattle.entry.proofs.Laws.{entryOf-take}
+use Rattle.filename.specs.Filename.{openingCheck}
+use Rattle.filename.specs.declared.NameCheck.the-variants as N
+use Rattle.filename.proofs.Laws.{sound-opening, sound-opened}
+use Rattle.selection.specs.Selection.{selected, selectedAt, nextOf}
+use Rattle.verdict.specs.declared.Opening.{Opening}
+use Rattle.session.specs.declared.Phase.the-variants as P
+use Rattle.session.specs.declared.Answer.the-variants as A
+use Rattle.session.specs.Step.{Outcome, outcome, gives, inPhase, ended, region, betweenOf, readsLimit, phaseLimit}
+use Rattle.fetch.specs.Plain.{Report, opened, closed, finished, chunks, chunkCount, chosen, regions}
+use Rattle.fetch.specs.Device.{Setting}
+use Rattle.fetch.specs.Claim.{Dumpable, regionBytes, regionReads}
+use Rattle.fetch.proofs.Chunk.{chunk-good, count-most}
+use Rattle.fetch.proofs.Ghost.{Ghost}
+use Rattle.fetch.proofs.Device.{no-bytes}
+use Rattle.fetch.proofs.Invariant.{tableAt, toCome, GoodBetween, dueBetween, boundBetween, Kept, via, inRegion, boundIn, cost}
+
+-- ---- a table t and a buffer b that begins with it: the entries of t are those of b. f is the width of an entry's numbers
+
+module _ (f : ℕ) (b t : List ℕ) (n : ℕ) (e : take n b ≡ t) (l : n ≤ length b) where
+  -- an entry's end
+  ends : (i : ℕ) → i < n / entrySize f → entrySize f * (i + 1) ≤ n
+  ends i h =
+      let m : i + 1 ≤ n / entrySize f = omega arith in
+      rw (mul-comm (entrySize f) (i + 1)) (le-div-iff-mul-le {k = entrySize f} (omega arith) .0 m)
+
+  pub entry-same : (i : ℕ) → i < n / entrySize f → entryOf f b i ≡ entryOf f t i
+  entry-same i h = sym (entryOf-take f b i n (ends i h)) ∙ ap (λ (x : List ℕ). entryOf f x i) e
+
+  entry-there : (i : ℕ) → i < n / entrySize f → there f b i ≡ true
+  entry-there i h = le-leb (entrySize f * (i + 1)) (length b) (omega (arith, ends i h))
+
+  selected-same : (names : List ℕ) (i : ℕ) → i < n / entrySize f → selectedAt f names b i ≡ selected f names (entryOf f t i)
+  selected-same names i h = rw (entry-there i h, entry-same i h) refl
+
+  -- the search stops at the first of the chosen ones
+  record Hit (names : List ℕ) (k i : ℕ) : Type 0 where
+    pub first : chosen f names t k i ≡ nextOf f names b k i ∷ chosen f names t (i + k - suc (nextOf f names b k i)) (suc (nextOf f names b k i))
+    pub later : i ≤ nextOf f names b k i
+    pub chose : selected f names (entryOf f t (nextOf f names b k i)) ≡ true
+
+  module _ (names : List ℕ) (k i : ℕ) (h : i < n / entrySize f) where
+    next-yes : selected f names (entryOf f t i) ≡ true → nextOf f names b (suc k) i ≡ i
+    unfolding nextOf
+    next-yes s = rw (selected-same names i h, s) refl
+
+    next-no : selected f names (entryOf f t i) ≡ false → nextOf f names b (suc k) i ≡ nextOf f names b k (suc i)
+    unfolding nextOf
+    next-no s = rw (selected-same names i h, s) refl
+
+    chosen-yes : selected f names (entryOf f t i) ≡ true → chosen f names t (suc k) i ≡ i ∷ chosen f names t k (suc i)
+    unfolding chosen
+    chosen-yes s = rw s refl
+
+    chosen-no : selected f names (entryOf f t i) ≡ false → chosen f names t (suc k) i ≡ chosen f names t k (suc i)
+    unfolding chosen
+    chosen-no s = rw s refl
+
+  next-end : (names : List ℕ) (i : ℕ) → nextOf f names b 0 i ≡ i
+  unfolding nextOf
+  next-end names i = refl
+
+  chosen-end : (names : List ℕ) (i : ℕ) → chosen f names t 0 i ≡ []
+  unfolding chosen
+  chosen-end names i = refl
+
+  hit : (names : List ℕ) (k i : ℕ) → i + k ≤ n / entrySize f → nextOf f names b k i < i + k → Hit names k i
+  hit names zero i m h = absurd (omega (arith, next-end names i))
+  hit names (suc k) i m h =
+      let j : i < n / entrySize f = omega arith in
+      by-test (selected f names (entryOf f t i))
+      (λ s.
+      let r : i + suc k - suc i ≡ k = omega arith in
+      record {
+        first = rw (chosen-yes names k i j s, next-yes names k i j s, r) refl;
+        later = omega (arith, next-yes names k i j s);
+        chose = rw (next-yes names k i j s) s;
+      })
+      (λ s.
+      let r : i + suc k ≡ suc i + k = omega arith in
+      let q : nextOf f names b k (suc i) < suc i + k = rw (next-no names k i j s, r) at h in
+      let y : Hit names k (suc i) = hit names k (suc i) (omega arith) q in
+      record {
+        first = rw (chosen-no names k i j s, next-no names k i j s, r) (y .first);
+        later = omega (arith, next-no names k i j s, y .later);
+        chose = rw (next-no names k i j s) (y .chose);
+      })
+
+  -- where it finds none, none is chosen
+  miss : (names : List ℕ) (k i : ℕ) → i + k ≤ n / entrySize f → i + k ≤ nextOf f names b k i → chosen f names t k i ≡ []
+  miss names zero i m h = chosen-end names i
+  miss names (suc k) i m h =
+      let j : i < n / entrySize f = omega arith in
+      by-test (selected f names (entryOf f t i)) (λ s. absurd (omega (arith, next-yes names k i j s)))
+      (λ s. chosen-no names k i j s ∙ miss names k (suc i) (omega arith) (omega (arith, next-no names k i j s)))
+
+-- ---- the laws of the plain host's regions
+
+regions-cons : (f : ℕ) (u : Opening) (mem : ℕ → ℕ) (t : List ℕ) (i : ℕ) (is : List ℕ) (r : ℕ)
+    → regions f u mem t (i ∷ is) r
+    ≡ opened i
+    ∷ (chunks u mem (lengthOf f (entryOf f t i)) (baseOf f (entryOf f t i)) (lengthOf f (entryOf f t i))
+    ++ (closed i ∷ regions f u mem t is (r + chunkCount u (lengthOf f (entryOf f t i)))))
+unfolding regions
+regions-cons f u mem t i is r = refl
+
+regions-end : (f : ℕ) (u : Opening) (mem : ℕ → ℕ) (t : List ℕ) (r : ℕ) → regions f u mem t [] r ≡ finished 3 r ∷ []
+unfolding regions
+regions-end f u mem t r = refl
+
+open-law : (u : Opening) (mem : ℕ → ℕ) (i b l : ℕ) (y : List Report) → inRegion u mem (region i b l 0 0 false) y ≡ chunks u mem l b l ++ y
+unfolding inRegion
+open-law u mem i b l y = rw (no-bytes, sub-zero l, add-zero b) refl
+
+cost-cons : (u : Opening) (t : List ℕ) (i : ℕ) (is : List ℕ)
+    → cost u t (i ∷ is) ≡ boundIn u (region i 0 (lengthOf 8 (entryOf 8 t i)) 0 0 false) + 2 + cost u t is
+unfolding cost regionBytes regionReads
+cost-cons u t i is = rw sub-zero (omega arith)
+
+-- the premise on the selected regions
+abbrev pub Safe : Setting → ℕ → ℕ → Type 0
+Safe c a n =
+    (i : ℕ) → i < n / entrySize 8 → selected 8 (c .names) (entryOf 8 (tableAt c a n) i) ≡ true → Dumpable 8 (entryOf 8 (tableAt c a n) i)
+
+module _ (c : Setting) (a n k i : ℕ) (w : Ghost) (g : GoodBetween c a n k i w) where
+  -- 1,024 entries of at most 2^53 chunks each, and the table
+  pub limits : (readsLimit (w .session) || phaseLimit 8 (w .session .window) (P.Between k i) (w .table) (w .reply)) ≡ false
+  limits =
+      rw (
+        g .declared,
+        le-ltb (2 ^ 63 + 1) (w .session .reads) (omega (arith, g .fits, g .entry, g .reads)),
+        le-ltb (length (w .table)) n (omega (arith, g .fits)),
+        le-ltb (n / entrySize 8) i (g .entry),
+      )
+      refl
+
+  -- ---- a step: it takes nothing of its delivery
+
+  module _ (d : List ℕ) (safe : Safe c a n) where
+    abbrev Keeps : Outcome → Type 0
+    Keeps r = Kept c a n (dueBetween c a n i w) (boundBetween c a n i w) w d r
+
+    abbrev t : List ℕ
+    t = tableAt c a n
+
+    abbrev left : ℕ
+    left = n / entrySize 8 - i
+
+    abbrev found : ℕ
+    found = nextOf 8 (c .names) (w .table) left i
+
+    abbrev e : List ℕ
+    e = entryOf 8 t found
+
+    room-for : n ≤ length (w .table)
+    room-for = omega (arith, g .fits)
+
+    entries : i + left ≡ n / entrySize 8
+    entries = omega (arith, g .entry)
+
+    here : found < n / entrySize 8 → Hit 8 (w .table) t n (g .table) room-for (c .names) left i
+    here h = hit 8 (w .table) t n (g .table) room-for (c .names) left i (omega (arith, entries)) (rw entries h)
+
+    -- a selected entry is opened
+    enter : found < n / entrySize 8
+        → Keeps
+        (outcome (gives (inPhase (w .session) (P.Region n (region found (baseOf 8 e) (lengthOf 8 e) 0 0 false))) 0 (A.Open found))
+        (w .table) (w .reply) (w .out))
+    enter h =
+        let f : toCome c a n i ≡ found ∷ toCome c a n (suc found) = rw entries at (here h .first) in
+        let y : Dumpable 8 e = safe found h (here h .chose) in
+        let u : Opening = w .session .opening in
+        let m : chunkCount u (lengthOf 8 e) ≤ 2 ^ 53 = count-most u (chunk-good u) (lengthOf 8 e) (omega (arith, y .top)) in
+        record {
+          good =
+              record {
+                out = g .out;
+                declared = refl;
+                fits = g .fits;
+                table = g .table;
+                queue = rw (append-nil, no-bytes) (g .queue);
+                entry = h;
+                reads = rw (sub-zero (lengthOf 8 e)) (omega (arith, m, g .reads, here h .later));
+                named = rw (entry-same 8 (w .table) t n (g .table) room-for found h) (sound-opened (filenameOf 8 e) (y .named));
+                within = omega arith;
+                top = y .top;
+                cut = λ p. refl;
+                idle = λ p. refl;
+              };
+          told = rw (f, open-law, sub-zero (lengthOf 8 e)) (regions-cons 8 (w .session .opening) (c .mem) t found _ _);
+          fell = rw (f, cost-cons) (omega arith);
+        }
+
+    -- none is left
+    finish : n / entrySize 8 ≤ found
+        → Keeps (outcome (gives (ended (w .session)) 0 (A.Finished 3 (w .session .reads))) (w .table) (w .reply) (w .out))
+    finish h =
+        let f : toCome c a n i ≡ [] =
+        miss 8 (w .table) t n (g .table) room-for (c .names) left i (omega (arith, entries)) (rw entries h) in
+        record { good = g .out; told = rw f (regions-end 8 (w .session .opening) (c .mem) t _); fell = omega arith }
+
+    pub between : Keeps (outcome (betweenOf 8 (w .session) k i (c .names) (w .table)) (w .table) (w .reply) (w .out))
+    unfolding betweenOf
+    between =
+        by-test (ltb found (n / entrySize 8))
+        (λ m.
+        let h : found < n / entrySize 8 = ltb-true _ _ m in
+        let f : entryOf 8 (w .table) found ≡ e = entry-same 8 (w .table) t n (g .table) room-for found h in
+        let y : openingCheck (filenameOf 8 e) ≡ N.Good = sound-opening (filenameOf 8 e) (safe found h (here h .chose) .named) in
+        via c a n (rw (g .declared, m, f, y) refl) (enter h))
+        (λ m. via c a n (rw (g .declared, m) refl) (finish (ltb-false _ _ m)))

@@ -1,0 +1,385 @@
+-- The counter of memory reads: after any list of steps from the opening, fair or not, it is the number of MemRead64 packets that the list reports,
+-- and an end comes last and carries it. By the branches of a step, then by induction on the list. Assumes nothing.
+use mathlib.Core.Path.{_≡_, refl, sym, ap, _∙_}
+use mathlib.Core.Bool.{Bool, true, false, not, _||_}
+use mathlib.Core.List.{List, [], _∷_, _++_, map}
+use Prim.Native.Nat.{ℕ, _+_, _-_, _^_, min}
+use native.Mathlib.Omega.{arith}
+use native.Mathlib.Nat.{add-zero, add-assoc, zero-add}
+use lib.Dec.{eqb, ltb, leb}
+use lib.ListN.{length, take, drop}
+use borrow.Author.Tests.{not-false}
+use Rattle.bundle.specs.Bundle.{wellFormed}
+use Rattle.entry.specs.Entry.{entryOf, filenameOf}
+use Rattle.filename.specs.Filename.{openingCheck, openedCheck}
+use Rattle.filename.specs.declared.NameCheck.{NameCheck}
+use Rattle.filename.specs.declared.NameCheck.the-variants as N
+use Rattle.selection.specs.Selection.{nextOf}
+use Rattle.packet.specs.Packet.{lengthField, badLength}
+use Rattle.build.specs.Build.{sizeOf, front}
+use Rattle.build.specs.declared.Request.{Request}
+use Rattle.build.specs.declared.Request.the-variants as Q
+use Rattle.verdict.specs.Verdict.{verdictOf}
+use Rattle.verdict.specs.declared.Opening.{Opening}
+use Rattle.verdict.specs.declared.Verdict.{Verdict}
+use Rattle.verdict.specs.declared.Verdict.the-variants as W
+use Rattle.session.specs.declared.Filling.{Filling}
+use Rattle.session.specs.declared.Region.{Region}
+use Rattle.session.specs.declared.Phase.{Phase}
+use Rattle.session.specs.declared.Phase.the-variants as P
+use Rattle.session.specs.declared.Session.{Session}
+use Rattle.session.specs.declared.Answer.{Answer}
+use Rattle.session.specs.declared.Answer.the-variants as A
+use Rattle.session.specs.Step.{
+  Outcome,
+  outcome,
+  gives,
+  keep,
+  acted,
+  wholeOf,
+  bodyOf,
+  packetOf,
+  responseOf,
+  switchedOf,
+  tableOf,
+  entriesIn,
+  openingOf,
+  betweenOf,
+  nextChunk,
+  begunOf,
+  askOf,
+  handOf,
+  regionOf,
+  limitOf,
+  onPhase,
+  isEnded,
+  stepOf,
+}
+use Rattle.steps.specs.Steps.{one, final}
+use Rattle.fetch.specs.Plain.{Report, sent, image, opened, byte, emptyRead, closed, finished}
+use Rattle.fetch.specs.Device.{Setting, World, Turn, own, other, toldBy, next, reported, start}
+use Rattle.fetch.specs.Claim.{reports}
+use Rattle.fetch.proofs.Basics.{split}
+use Rattle.build.proofs.Laws.{take-front}
+use Rattle.fetch.proofs.Sent.{asks, asks-read, readIn, readsIn, reads-append, reads-bytes}
+use Rattle.fetch.proofs.Verdict.{Sane, sane}
+
+-- ---- what a list of reports tells, k memory reads having been sent before it: an end carries those sent before it, and comes last
+
+abbrev endsAt : ℕ → Report → List Report → Type 0
+endsAt k (sent p) l = Unit
+endsAt k (image p) l = Unit
+endsAt k (opened i) l = Unit
+endsAt k (byte b) l = Unit
+endsAt k emptyRead l = Unit
+endsAt k (closed i) l = Unit
+endsAt k (finished how r) l = (r ≡ k) × (l ≡ [])
+
+abbrev Told : ℕ → List Report → Type 0
+Told k [] = Unit
+Told k (r ∷ l) = endsAt k r l × Told (k + one (readIn r)) l
+
+-- whether an end is among them
+abbrev isEnd : Report → Bool
+isEnd (sent p) = false
+isEnd (image p) = false
+isEnd (opened i) = false
+isEnd (byte b) = false
+isEnd emptyRead = false
+isEnd (closed i) = false
+isEnd (finished how r) = true
+
+abbrev hasEnd : List Report → Bool
+hasEnd [] = false
+hasEnd (r ∷ l) = isEnd r || hasEnd l
+
+-- where the one has an end the other is empty
+told-append : (l m : List Report) (k : ℕ) → Told k l → Told (k + readsIn l) m → (hasEnd l ≡ true → m ≡ []) → Told k (l ++ m)
+unfolding readsIn
+told-append [] m k f h g = rw add-zero at h
+told-append (x ∷ l) m k f h g =
+    (first x (f .0) g, told-append l m (k + one (readIn x)) (f .1) (rw (sym (add-assoc k (one (readIn x)) (readsIn l))) at h) (later x g))
+  where
+    first : (x : Report) → endsAt k x l → (isEnd x || hasEnd l ≡ true → m ≡ []) → endsAt k x (l ++ m)
+    first (sent p) e g = tt
+    first (image p) e g = tt
+    first (opened i) e g = tt
+    first (byte b) e g = tt
+    first emptyRead e g = tt
+    first (closed i) e g = tt
+    first (finished how r) e g = (e .0, rw (e .1) (g refl))
+
+    later : (x : Report) → (isEnd x || hasEnd l ≡ true → m ≡ []) → hasEnd l ≡ true → m ≡ []
+    later (sent p) g e = g e
+    later (image p) g e = g e
+    later (opened i) g e = g e
+    later (byte b) g e = g e
+    later emptyRead g e = g e
+    later (closed i) g e = g e
+    later (finished how r) g e = g refl
+
+told-bytes : (l : List ℕ) (k : ℕ) → Told k (map byte l)
+told-bytes [] k = tt
+told-bytes (b ∷ l) k = (tt, told-bytes l (k + 0))
+
+no-end : (l : List ℕ) → hasEnd (map byte l) ≡ false
+no-end [] = refl
+no-end (b ∷ l) = no-end l
+
+told-end : (l m : List Report) (k how r : ℕ) → Told k (l ++ (finished how r ∷ m)) → (r ≡ k + readsIn l) × (m ≡ [])
+unfolding readsIn
+told-end [] m k how r f = (f .0 .0 ∙ sym (add-zero k), f .0 .1)
+told-end (x ∷ l) m k how r f =
+    let y = told-end l m (k + one (readIn x)) how r (f .1) in
+    (y .0 ∙ add-assoc k (one (readIn x)) (readsIn l), y .1)
+
+-- ---- one step
+
+-- while packets are read, no memory read was sent
+abbrev calmIn : Phase → ℕ → Type 0
+calmIn (P.Packet h) r = r ≡ 0
+calmIn (P.Response x) r = Unit
+calmIn (P.Switched k) r = Unit
+calmIn (P.Table x) r = Unit
+calmIn (P.Between k i) r = Unit
+calmIn (P.Region k x) r = Unit
+calmIn (P.Ended k) r = Unit
+
+abbrev Calm : Session → Type 0
+Calm s = calmIn (s .phase) (s .reads)
+
+-- a step from s counts what it sends
+record Counted (s : Session) (d set : List ℕ) (r : Outcome) : Type 0 where
+  pub reads : r .stepped .session .reads ≡ s .reads + readsIn (toldBy r d set)
+  pub told : Told (s .reads) (toldBy r d set)
+  pub calm : Calm (r .stepped .session)
+  pub ends : hasEnd (toldBy r d set) ≡ true → isEnded (r .stepped .session .phase) ≡ true
+
+differ : {A : Type 0} → false ≡ true → A
+differ e = absurd (let z : _≡_ {A = ℕ} 0 1 = cc in omega arith)
+
+module _ (s : Session) (d set : List ℕ) where
+  abbrev Counts : Outcome → Type 0
+  Counts r = Counted s d set r
+
+  -- nothing is reported
+  silent : (z : Session) (n : ℕ) (a : Answer) (t y o : List ℕ) → z .reads ≡ s .reads → Calm z → toldBy (outcome (gives z n a) t y o) d set ≡ []
+      → Counts (outcome (gives z n a) t y o)
+  unfolding readsIn
+  silent z n a t y o e k h = record { reads = rw (h, add-zero) e; told = rw h tt; calm = k; ends = rw h (λ f. differ f) }
+
+  -- one report that is no packet
+  single : (x : Report) (z : Session) (n : ℕ) (a : Answer) (t y o : List ℕ) → z .reads ≡ s .reads → Calm z
+      → toldBy (outcome (gives z n a) t y o) d set ≡ x ∷ [] → readIn x ≡ false → isEnd x ≡ false → endsAt (s .reads) x []
+      → Counts (outcome (gives z n a) t y o)
+  unfolding readsIn
+  single x z n a t y o e k h f i g =
+      record { reads = rw (h, f) (e ∙ omega arith); told = rw h (g, tt); calm = k; ends = rw (h, i) (λ f. differ f) }
+
+  -- the end
+  ends-here : (how : ℕ) (z : Session) (n : ℕ) (t y o : List ℕ) → z .reads ≡ s .reads → isEnded (z .phase) ≡ true → Calm z
+      → Counts (outcome (gives z n (A.Finished how (s .reads))) t y o)
+  unfolding readsIn
+  ends-here how z n t y o e f k = record { reads = e ∙ omega arith; told = ((refl, refl), tt); calm = k; ends = λ i. f }
+
+  -- a packet
+  sends : (q : Request) (z : Session) (n : ℕ) (t y o : List ℕ) → z .reads ≡ s .reads + one (asks q) → Calm z
+      → Counts (outcome (gives z n (A.Send (sizeOf q))) t y (front q o))
+  unfolding readsIn
+  sends q z n t y o e k = record { reads = rw (take-front q o, asks-read q, add-zero) e; told = (tt, tt); calm = k; ends = λ f. differ f }
+
+  -- ---- packet: no memory read was sent before
+
+  module _ (good : wellFormed true set ≡ true) (none : s .reads ≡ 0) (t y o : List ℕ) where
+    acted-counts : (n : ℕ) (w : List ℕ) (v : Verdict) → Sane (length t) v → Counts (acted s n w t y o v)
+    acted-counts n w (W.Reply q) h = sends q _ n t y o (rw (h, add-zero) refl) none
+    acted-counts n w (W.Image x k) h = single (image (take k (drop x set))) _ n (A.Image x k) t y o refl none refl refl refl tt
+    acted-counts n w W.Pass h = silent _ n A.Go t y o refl none refl
+    acted-counts n w (W.Finish how) h = ends-here how _ n t y o refl refl tt
+    acted-counts n w (W.Respond c k) h = sends (Q.ExecuteData c) _ n t y o (sym (add-zero (s .reads))) tt
+    acted-counts n w (W.Debug a k) h = sends (Q.MemRead64 a k) _ n t y o (rw none refl) tt
+    acted-counts n w (W.Refused why) h = silent _ n (A.Refused why) t y o refl tt refl
+
+    packet-counts : (h : ℕ) → Counts (packetOf s h d set t y o)
+    unfolding packetOf bodyOf wholeOf
+    packet-counts h =
+        let w : List ℕ = keep (s .window) h d in
+        let n : ℕ = min (lengthField w - h) (length d) in
+        let v : List ℕ = keep (s .window) h (take n d) in
+        split Counts (ltb (h + length d) 8) (λ e. silent _ (length d) A.Go t y o refl none refl)
+        (λ e.
+        split Counts (badLength (lengthField w)) (λ m. silent _ (8 - h) (A.Refused 5) t y o refl tt refl)
+        (λ m.
+        split Counts (ltb (h + n) (lengthField w)) (λ i. silent _ n A.Go t y o refl none refl)
+        (λ i.
+        acted-counts n v (verdictOf (s .opening) set (length t) (length y) (take (lengthField v) v))
+        (sane (s .opening) set (length t) (length y) good (take (lengthField v) v)))))
+
+  -- ---- the other phases
+
+  module _ (calm : Calm s) (names t y o : List ℕ) where
+    response-counts : (x : Filling) → Counts (responseOf s x d t y o)
+    unfolding responseOf
+    response-counts x =
+        split Counts (ltb (x .filled + min (x .declared - x .filled) (length d)) (x .declared)) (λ e. silent _ _ A.Go t _ o refl tt refl)
+        (λ e. sends Q.SwitchMode _ _ t _ o (sym (add-zero (s .reads))) tt)
+
+    switched-counts : (k : ℕ) → Counts (switchedOf s k t y o)
+    unfolding switchedOf
+    switched-counts k = ends-here 4 _ 0 t y o refl refl tt
+
+    table-counts : (x : Filling) → Counts (tableOf s x d t y o)
+    unfolding tableOf
+    table-counts x =
+        split Counts (ltb (x .filled + min (x .declared - x .filled) (length d)) (x .declared)) (λ e. silent _ _ A.Go _ y o refl tt refl)
+        (λ e. silent _ _ A.Go _ y o refl tt refl)
+
+    opening-counts : (k i : ℕ) (e : List ℕ) (v : NameCheck) → Counts (outcome (openingOf 8 s k i e v) t y o)
+    opening-counts k i e N.Good = single (opened i) _ 0 (A.Open i) t y o refl tt refl refl refl tt
+    opening-counts k i e (N.Refused why) = silent _ 0 (A.Refused why) t y o refl tt refl
+
+    between-counts : (k from : ℕ) → Counts (outcome (betweenOf 8 s k from names t) t y o)
+    unfolding betweenOf
+    between-counts k from =
+        let i : ℕ = nextOf 8 names t (entriesIn 8 k - from) from in
+        split (λ v. Counts (outcome v t y o)) (ltb i (entriesIn 8 k))
+        (λ e. opening-counts k i (entryOf 8 t i) (openingCheck (filenameOf 8 (entryOf 8 t i))))
+        (λ e. ends-here 3 _ 0 t y o refl refl tt)
+
+    module _ (k : ℕ) (x : Region) where
+      next-counts : Counts (nextChunk s k x t y o)
+      unfolding nextChunk
+      next-counts =
+          split Counts (leb (x .len) (x .done)) (λ e. single (closed (x .entry)) _ 0 (A.Close (x .entry)) t y o refl tt refl refl refl tt)
+          (λ e. sends (Q.MemRead64 _ _) _ 0 t y o (omega arith) tt)
+
+      begun-counts : (v : NameCheck) → Counts (begunOf 8 s k x t y o v)
+      begun-counts N.Good =
+          split Counts (ltb (256 ^ 8) (x .base + x .len)) (λ e. silent _ 0 (A.Refused 22) t y o refl tt refl) (λ e. next-counts)
+      begun-counts (N.Refused why) = silent _ 0 (A.Refused why) t y o refl tt refl
+
+      ask-counts : Counts (askOf 8 s k x t y o)
+      unfolding askOf
+      ask-counts =
+          split Counts (eqb (x .done) 0) (λ e. begun-counts (openedCheck (filenameOf 8 (entryOf 8 t (x .entry))))) (λ e. next-counts)
+
+      hand-counts : Counts (handOf s k x d t y o)
+      unfolding handOf
+      hand-counts =
+          split Counts (eqb (length d) 0) (λ e. silent s 0 A.Go t y o refl calm refl)
+          (λ e.
+          record {
+            reads = rw (reads-bytes (take (min (x .outstanding) (length d)) d), add-zero) refl;
+            told = told-bytes (take (min (x .outstanding) (length d)) d) (s .reads);
+            calm = tt;
+            ends = rw (no-end (take (min (x .outstanding) (length d)) d)) (λ f. differ f);
+          })
+
+      region-counts : Counts (regionOf 8 s k x d t y o)
+      unfolding regionOf
+      region-counts =
+          split Counts (x .due) (λ e. single emptyRead _ 0 A.EmptyRead t y o refl tt refl refl refl tt)
+          (λ e. split Counts (eqb (x .outstanding) 0) (λ i. ask-counts) (λ i. hand-counts))
+
+    -- ---- the step
+
+    phase-counts : wellFormed true set ≡ true → (p : Phase) → calmIn p (s .reads) → Counts (onPhase s p d set names t y o)
+    phase-counts g (P.Packet h) e = packet-counts g e t y o h
+    phase-counts g (P.Response x) e = response-counts x
+    phase-counts g (P.Switched k) e = switched-counts k
+    phase-counts g (P.Table x) e = table-counts x
+    phase-counts g (P.Between k i) e = between-counts k i
+    phase-counts g (P.Region k x) e = region-counts k x
+    phase-counts g (P.Ended k) e = silent s 0 (A.Refused 4) t y o refl calm refl
+
+    untouched-counts : (why : ℕ) → Counts (outcome (gives s 0 (A.Refused why)) t y o)
+    untouched-counts why = silent s 0 (A.Refused why) t y o refl calm refl
+
+    step-counts : Counts (stepOf s d set names t y o)
+    unfolding stepOf
+    step-counts =
+        split Counts (not (wellFormed true set)) (λ e. untouched-counts 1)
+        (λ e.
+        split Counts (not (wellFormed false names)) (λ m. untouched-counts 2)
+        (λ m.
+        split Counts (ltb (length o) 48) (λ i. untouched-counts 3)
+        (λ i.
+        split Counts (isEnded (s .phase)) (λ j. untouched-counts 4)
+        (λ j. split Counts (limitOf s t y) (λ k. untouched-counts 18) (λ k. phase-counts (not-false _ e) (s .phase) calm)))))
+
+    -- an ended session stays as it is, and nothing is reported
+    abbrev Over : Outcome → Type 0
+    Over r = (r .stepped .session ≡ s) × (toldBy r d set ≡ [])
+
+    step-over : isEnded (s .phase) ≡ true → Over (stepOf s d set names t y o)
+    unfolding stepOf
+    step-over h =
+        split Over (not (wellFormed true set)) (λ e. (refl, refl))
+        (λ e.
+        split Over (not (wellFormed false names)) (λ m. (refl, refl))
+        (λ m.
+        split Over (ltb (length o) 48) (λ i. (refl, refl))
+        (λ i. split Over (isEnded (s .phase)) (λ j. (refl, refl)) (λ j. differ (sym j ∙ h)))))
+
+-- ---- any step of a list: lent the run's own things, or anything
+
+record Turned (c : Setting) (w : World) (i : Turn) : Type 0 where
+  pub reads : next c w i .session .reads ≡ w .session .reads + readsIn (reported c w i)
+  pub told : Told (w .session .reads) (reported c w i)
+  pub calm : Calm (next c w i .session)
+  pub ends : hasEnd (reported c w i) ≡ true → isEnded (next c w i .session .phase) ≡ true
+
+module _ (c : Setting) where
+  turned : (w : World) (i : Turn) → Calm (w .session) → Turned c w i
+  turned w (own d) k =
+      let r = step-counts (w .session) d (c .set) k (c .names) (w .table) (w .reply) (w .out) in
+      record { reads = r .reads; told = r .told; calm = r .calm; ends = r .ends }
+  turned w (other d x z t y o) k =
+      let r = step-counts (w .session) d x k z t y o in
+      record { reads = r .reads; told = r .told; calm = r .calm; ends = r .ends }
+
+  counts-from : (is : List Turn) (w : World) → Calm (w .session)
+      → final (next c) w is .session .reads ≡ w .session .reads + readsIn (reports c w is)
+  unfolding readsIn
+  counts-from [] w k = sym (add-zero (w .session .reads))
+  counts-from (i ∷ is) w k =
+      let r = turned w i k in
+      counts-from is (next c w i) (r .calm)
+      ∙ rw (r .reads, reads-append (reported c w i) (reports c (next c w i) is), add-assoc) refl
+
+  turned-over : (w : World) (i : Turn) → Calm (w .session) → isEnded (w .session .phase) ≡ true
+      → (next c w i .session ≡ w .session) × (reported c w i ≡ [])
+  turned-over w (own d) k h = step-over (w .session) d (c .set) k (c .names) (w .table) (w .reply) (w .out) h
+  turned-over w (other d x z t y o) k h = step-over (w .session) d x k z t y o h
+
+  all-over : (is : List Turn) (w : World) → Calm (w .session) → isEnded (w .session .phase) ≡ true → reports c w is ≡ []
+  all-over [] w k h = refl
+  all-over (i ∷ is) w k h =
+      let o = turned-over w i k h in
+      rw (o .1) (all-over is (next c w i) (rw (o .0) k) (rw (o .0) h))
+
+  told-from : (is : List Turn) (w : World) → Calm (w .session) → Told (w .session .reads) (reports c w is)
+  told-from [] w k = tt
+  told-from (i ∷ is) w k =
+      let r = turned w i k in
+      told-append (reported c w i) (reports c (next c w i) is) (w .session .reads) (r .told) (rw (r .reads) at (told-from is (next c w i) (r .calm)))
+      (λ e. all-over is (next c w i) (r .calm) (r .ends e))
+
+  module _ (u : Opening) (t y o s : List ℕ) (is : List Turn) where
+    -- the counter is the number of memory reads that were sent since the session was opened
+    pub counter : final (next c) (start u t y o s) is .session .reads ≡ readsIn (reports c (start u t y o s) is)
+    counter = counts-from is (start u t y o s) refl ∙ zero-add (readsIn (reports c (start u t y o s) is))
+
+    -- an end comes last, with the number of those sent before it
+    pub end-counts : (l m : List Report) (how r : ℕ) → reports c (start u t y o s) is ≡ l ++ (finished how r ∷ m) → (r ≡ readsIn l) × (m ≡ [])
+    end-counts l m how r e =
+        let y = told-end l m 0 how r (rw e at (told-from is (start u t y o s) refl)) in
+        (y .0 ∙ zero-add (readsIn l), y .1)
+
+    -- so it carries the counter
+    pub end-reads : (l m : List Report) (how r : ℕ) → reports c (start u t y o s) is ≡ l ++ (finished how r ∷ m)
+        → r ≡ final (next c) (start u t y o s) is .session .reads
+    unfolding readsIn
+    end-reads l m how r e =
+        let y = end-counts l m how r e in
+        y .0 ∙ sym (counter ∙ ap readsIn e ∙ reads-append l (finished how r ∷ m) ∙ rw (y .1) (add-zero (readsIn l)))

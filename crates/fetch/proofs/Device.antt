@@ -1,0 +1,84 @@
+-- The device: the bytes of its memory, the memory reads that it decodes, and its deliveries: each by the list, or by reading back what was written.
+-- Assumes nothing.
+use mathlib.Core.Path.{_≡_, refl, ap, _∙_}
+use mathlib.Core.Bool.{false}
+use mathlib.Core.List.{List, [], _∷_, _++_}
+use Prim.Native.Nat.{ℕ, zero, suc, _+_, _-_, _^_, _≤_, _<_}
+use native.Mathlib.Omega.{arith}
+use native.Mathlib.Nat.{add-zero, suc-add, add-suc, sub-zero, suc-sub-suc}
+use lib.ListN.{length, take, drop, length-take}
+use lib.Seq.{take-take}
+use Rattle.field.specs.Field.{leBytes}
+use Rattle.field.proofs.Laws.{le-of-bytes}
+use Rattle.packet.specs.Packet.{long}
+use Rattle.build.specs.Build.{fields, bytesOf}
+use Rattle.build.specs.declared.Request.the-variants as Q
+use Rattle.fetch.specs.Plain.{bytesAt}
+use Rattle.fetch.specs.Device.{served, Delivered}
+use Rattle.fetch.proofs.Sent.{isRead, asks-read}
+
+pub no-bytes : (mem : ℕ → ℕ) (at : ℕ) → bytesAt mem at 0 ≡ []
+unfolding bytesAt
+no-bytes mem at = refl
+
+pub length-bytesAt : (mem : ℕ → ℕ) (a k : ℕ) → length (bytesAt mem a k) ≡ k
+unfolding bytesAt
+length-bytesAt mem a zero = refl
+length-bytesAt mem a (suc k) = ap suc (length-bytesAt mem (suc a) k)
+
+pub take-bytesAt : (mem : ℕ → ℕ) (a k j : ℕ) → j ≤ k → take j (bytesAt mem a k) ≡ bytesAt mem a j
+unfolding bytesAt
+take-bytesAt mem a k zero h = refl
+take-bytesAt mem a zero (suc j) h = absurd (omega arith)
+take-bytesAt mem a (suc k) (suc j) h = ap (λ (l : List ℕ). mem a ∷ l) (take-bytesAt mem (suc a) k j (omega arith))
+
+pub drop-bytesAt : (mem : ℕ → ℕ) (a k j : ℕ) → j ≤ k → drop j (bytesAt mem a k) ≡ bytesAt mem (a + j) (k - j)
+unfolding bytesAt
+drop-bytesAt mem a k zero h = rw (add-zero, sub-zero) refl
+drop-bytesAt mem a zero (suc j) h = absurd (omega arith)
+drop-bytesAt mem a (suc k) (suc j) h =
+    rw (add-suc, ← suc-add, suc-sub-suc) (drop-bytesAt mem (suc a) k j (omega arith))
+
+pub bytesAt-split : (mem : ℕ → ℕ) (a k j : ℕ) → j ≤ k → bytesAt mem a k ≡ bytesAt mem a j ++ bytesAt mem (a + j) (k - j)
+unfolding bytesAt
+bytesAt-split mem a k zero h = rw (add-zero, sub-zero) refl
+bytesAt-split mem a zero (suc j) h = absurd (omega arith)
+bytesAt-split mem a (suc k) (suc j) h =
+    rw (add-suc, ← suc-add, suc-sub-suc) (ap (λ (l : List ℕ). mem a ∷ l) (bytesAt-split mem (suc a) k j (omega arith)))
+
+-- ---- memory reads
+
+-- a packet that is no memory read gets nothing
+pub unserved : (mem : ℕ → ℕ) (p : List ℕ) → isRead p ≡ false → served mem p ≡ []
+unfolding served
+unserved mem p e = rw e refl
+
+-- where no byte is asked for, no address is read
+at-address : (mem : ℕ → ℕ) (a b k m : ℕ) → a + k ≤ m → (a < m → b ≡ a) → bytesAt mem b k ≡ bytesAt mem a k
+unfolding bytesAt
+at-address mem a b zero m h f = refl
+at-address mem a b (suc k) m h f = ap (λ (x : ℕ). bytesAt mem x (suc k)) (f (omega arith))
+
+read-address : (a k : ℕ) → a < 256 ^ 8 → long (bytesOf (Q.MemRead64 a k)) 0 ≡ a
+unfolding bytesOf fields leBytes
+read-address a k h = le-of-bytes 8 a (leBytes 8 k ++ []) h
+
+read-length : (a k : ℕ) → k < 256 ^ 8 → long (bytesOf (Q.MemRead64 a k)) 1 ≡ k
+unfolding bytesOf fields leBytes
+read-length a k h = le-of-bytes 8 k [] h
+
+-- the device reads back the address and the length that the host wrote
+pub served-read : (mem : ℕ → ℕ) (a k : ℕ) → a + k ≤ 256 ^ 8 → k ≤ 65536 → served mem (bytesOf (Q.MemRead64 a k)) ≡ bytesAt mem a k
+unfolding served
+served-read mem a k h l =
+    rw (asks-read (Q.MemRead64 a k), read-length a k (omega arith))
+    (at-address mem a (long (bytesOf (Q.MemRead64 a k)) 0) k (256 ^ 8) h (read-address a k))
+
+-- ---- deliveries
+
+pub no-longer : (d q : List ℕ) → Delivered d q → length d ≤ length q
+no-longer d q v = omega (arith, ap length (v .begins), length-take (length d) q)
+
+-- the first bytes of a delivery are those of the queue
+pub first-of : (d q : List ℕ) (k : ℕ) → Delivered d q → k ≤ length d → take k d ≡ take k q
+first-of d q k v h = ap (take k) (v .begins) ∙ take-take k (length d) q h

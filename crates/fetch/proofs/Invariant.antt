@@ -1,0 +1,186 @@
+-- The invariant, by cases of the phase with its counts: what is well kept (goodAt), what the plain host would still report (dueAt), and a number that
+-- bounds the own steps left (boundAt). One step keeps it: Kept. The table is the n bytes of the memory at a. Assumes nothing.
+use mathlib.Core.Path.{_≡_}
+use mathlib.Core.Bool.{Bool, true, not, _&&_}
+use mathlib.Core.List.{List, [], _∷_, _++_, map}
+use Prim.Native.Nat.{ℕ, suc, _+_, _-_, _*_, _/_, _%_, _^_, _≤_, _<_}
+use lib.Dec.{eqb}
+use lib.ListN.{length, take, drop}
+use Rattle.entry.specs.Entry.{entrySize, entryOf, filenameOf}
+use Rattle.filename.specs.Filename.{openedCheck}
+use Rattle.filename.specs.declared.NameCheck.the-variants as N
+use Rattle.packet.specs.Packet.{lengthField}
+use Rattle.verdict.specs.Verdict.{room}
+use Rattle.verdict.specs.declared.Opening.{Opening}
+use Rattle.session.specs.declared.Filling.{Filling}
+use Rattle.session.specs.declared.Region.{Region}
+use Rattle.session.specs.declared.Phase.{Phase}
+use Rattle.session.specs.declared.Phase.the-variants as P
+use Rattle.session.specs.Step.{Outcome, onUsb}
+use Rattle.steps.specs.Steps.{one}
+use Rattle.fetch.specs.Plain.{Report, byte, closed, bytesAt, hear, Debugged, emptyIf, chunks, chunkCount, chosen, regions, reportsOf}
+use Rattle.fetch.specs.Device.{Setting, toldBy}
+use Rattle.fetch.specs.Claim.{regionBytes, regionReads}
+use Rattle.fetch.proofs.Ghost.{Ghost, afterStep}
+
+-- ---- inside a region
+
+-- the part of the step bound that the regions of some entries take
+unfoldable pub cost : Opening → List ℕ → List ℕ → ℕ
+cost u t is = regionBytes 8 t is + 2 * length is + 2 * regionReads 8 u t is
+
+-- what is not yet asked for in a region
+abbrev pub unasked : Region → ℕ
+unasked x = x .len - (x .done + x .outstanding)
+
+-- an empty read follows a chunk that ends at e
+abbrev pub seam : Opening → ℕ → Bool
+seam u e = onUsb u && eqb (e % 512) 0
+
+-- what is due inside a region, before what comes after its bytes: an empty read that is due, the bytes that were asked for, the empty read after
+-- them, and the chunks not yet asked for
+unfoldable pub inRegion : Opening → (ℕ → ℕ) → Region → List Report → List Report
+inRegion u mem x tail =
+    emptyIf (x .due)
+    ++ (map byte (bytesAt mem (x .base + x .done) (x .outstanding))
+    ++ (emptyIf (not (eqb (x .outstanding) 0) && seam u (x .done + x .outstanding))
+    ++ (chunks u mem (unasked x) (x .base + (x .done + x .outstanding)) (unasked x) ++ tail)))
+
+-- the steps that are left inside a region
+abbrev pub boundIn : Opening → Region → ℕ
+boundIn u x = one (x .due) + (x .len - x .done) + one (not (eqb (x .outstanding) 0)) + 2 * chunkCount u (unasked x)
+
+-- ---- by phase
+
+module _ (c : Setting) (a n : ℕ) where
+  -- the table
+  abbrev pub tableAt : List ℕ
+  tableAt = bytesAt (c .mem) a n
+
+  -- the entries from i on that are selected
+  abbrev pub toCome : ℕ → List ℕ
+  toCome i = chosen 8 (c .names) tableAt (n / entrySize 8 - i) i
+
+  -- packet, h bytes held: the bytes held and the queue are what is left of the opening
+  pub record GoodPacket (h : ℕ) (w : Ghost) : Type 0 where
+    pub out : 48 ≤ length (w .out)
+    pub reads : w .session .reads ≡ 0
+    pub size : length (w .session .window) ≡ 48
+    pub count : length (w .back) ≡ h
+    pub same : take h (w .session .window) ≡ take 48 (w .back)
+    pub part : 8 ≤ h → h < lengthField (w .back)
+    pub ends :
+        hear (w .session .opening) (c .set) (length (w .table)) (length (w .reply)) (length (w .back ++ w .queue)) (w .back ++ w .queue) .ending
+        ≡ Debugged a n []
+
+  abbrev pub duePacket : Ghost → List Report
+  duePacket w =
+      reportsOf (w .session .opening) (c .mem) (c .names)
+      (hear (w .session .opening) (c .set) (length (w .table)) (length (w .reply)) (length (w .back ++ w .queue)) (w .back ++ w .queue))
+
+  abbrev pub boundPacket : Ghost → ℕ
+  boundPacket w = length (w .queue) + n + 2 + cost (w .session .opening) tableAt (toCome 0)
+
+  -- table: the first bytes of the table buffer are the memory's, the queue holds the others
+  pub record GoodTable (x : Filling) (w : Ghost) : Type 0 where
+    pub out : 48 ≤ length (w .out)
+    pub declared : x .declared ≡ n
+    pub fits : n ≤ room (length (w .table))
+    pub filled : x .filled ≤ n
+    pub table : take (x .filled) (w .table) ≡ take (x .filled) tableAt
+    pub queue : w .queue ≡ drop (x .filled) tableAt
+    pub reads : w .session .reads ≡ 1
+
+  abbrev pub dueTable : Ghost → List Report
+  dueTable w = regions 8 (w .session .opening) (c .mem) tableAt (toCome 0) 1
+
+  abbrev pub boundTable : Filling → Ghost → ℕ
+  boundTable x w = n - x .filled + 2 + cost (w .session .opening) tableAt (toCome 0)
+
+  -- between regions, from entry i on, k the declared length: the table is read, nothing is queued
+  pub record GoodBetween (k i : ℕ) (w : Ghost) : Type 0 where
+    pub out : 48 ≤ length (w .out)
+    pub declared : k ≡ n
+    pub fits : n ≤ room (length (w .table))
+    pub table : take n (w .table) ≡ tableAt
+    pub queue : w .queue ≡ []
+    pub entry : i ≤ n / entrySize 8
+    pub reads : w .session .reads ≤ 1 + i * 2 ^ 53
+
+  abbrev pub dueBetween : ℕ → Ghost → List Report
+  dueBetween i w = regions 8 (w .session .opening) (c .mem) tableAt (toCome i) (w .session .reads)
+
+  abbrev pub boundBetween : ℕ → Ghost → ℕ
+  boundBetween i w = 1 + cost (w .session .opening) tableAt (toCome i)
+
+  -- region x, k the table's declared length: the queue holds the bytes that were asked for and not yet handed out
+  pub record GoodRegion (k : ℕ) (x : Region) (w : Ghost) : Type 0 where
+    pub out : 48 ≤ length (w .out)
+    pub declared : k ≡ n
+    pub fits : n ≤ room (length (w .table))
+    pub table : take n (w .table) ≡ tableAt
+    pub queue : w .queue ≡ bytesAt (c .mem) (x .base + x .done) (x .outstanding)
+    pub entry : x .entry < n / entrySize 8
+    pub reads : w .session .reads + chunkCount (w .session .opening) (unasked x) ≤ 1 + suc (x .entry) * 2 ^ 53
+    pub named : openedCheck (filenameOf 8 (entryOf 8 (w .table) (x .entry))) ≡ N.Good
+    pub within : x .done + x .outstanding ≤ x .len
+    pub top : x .base + x .len ≤ 256 ^ 8
+    pub cut : x .done + x .outstanding < x .len → (x .done + x .outstanding) % 512 ≡ 0
+    pub idle : x .due ≡ true → x .outstanding ≡ 0
+
+  abbrev pub dueRegion : Region → Ghost → List Report
+  dueRegion x w =
+      inRegion (w .session .opening) (c .mem) x
+      (closed (x .entry)
+      ∷ regions 8 (w .session .opening) (c .mem) tableAt (toCome (suc (x .entry)))
+      (w .session .reads + chunkCount (w .session .opening) (unasked x)))
+
+  abbrev pub boundRegion : Region → Ghost → ℕ
+  boundRegion x w = boundIn (w .session .opening) x + 2 + cost (w .session .opening) tableAt (toCome (suc (x .entry)))
+
+  -- ---- all phases: a run that comes to a memory debug is never in a response
+  abbrev pub goodAt : Phase → Ghost → Type 0
+  goodAt (P.Packet h) w = GoodPacket h w
+  goodAt (P.Response x) w = ⊥
+  goodAt (P.Switched k) w = ⊥
+  goodAt (P.Table x) w = GoodTable x w
+  goodAt (P.Between k i) w = GoodBetween k i w
+  goodAt (P.Region k x) w = GoodRegion k x w
+  goodAt (P.Ended k) w = 48 ≤ length (w .out)
+
+  abbrev pub dueAt : Phase → Ghost → List Report
+  dueAt (P.Packet h) w = duePacket w
+  dueAt (P.Response x) w = []
+  dueAt (P.Switched k) w = []
+  dueAt (P.Table x) w = dueTable w
+  dueAt (P.Between k i) w = dueBetween i w
+  dueAt (P.Region k x) w = dueRegion x w
+  dueAt (P.Ended k) w = []
+
+  abbrev pub boundAt : Phase → Ghost → ℕ
+  boundAt (P.Packet h) w = boundPacket w
+  boundAt (P.Response x) w = 0
+  boundAt (P.Switched k) w = 0
+  boundAt (P.Table x) w = boundTable x w
+  boundAt (P.Between k i) w = boundBetween i w
+  boundAt (P.Region k x) w = boundRegion x w
+  boundAt (P.Ended k) w = 0
+
+  abbrev pub Good : Ghost → Type 0
+  Good w = goodAt (w .session .phase) w
+
+  abbrev pub dueOf : Ghost → List Report
+  dueOf w = dueAt (w .session .phase) w
+
+  abbrev pub boundOf : Ghost → ℕ
+  boundOf w = boundAt (w .session .phase) w
+
+  -- an own step with delivery d and outcome r keeps what was due, and takes at least one from the bound
+  pub record Kept (due : List Report) (bound : ℕ) (w : Ghost) (d : List ℕ) (r : Outcome) : Type 0 where
+    pub good : Good (afterStep (c .mem) w d r)
+    pub told : due ≡ toldBy r d (c .set) ++ dueOf (afterStep (c .mem) w d r)
+    pub fell : boundOf (afterStep (c .mem) w d r) ≤ bound - 1
+
+  -- Kept goes over to an equal outcome: which branch a step takes is shown apart from what the branch keeps
+  pub via : {due : List Report} {bound : ℕ} {w : Ghost} {d : List ℕ} {r r′ : Outcome} → r ≡ r′ → Kept due bound w d r′ → Kept due bound w d r
+  via e k = rw e k

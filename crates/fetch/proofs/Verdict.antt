@@ -1,0 +1,122 @@
+-- The verdict on a packet: its first 48 bytes say the same, and what it gives is sane, by cases of what is decoded.
+-- Assumes nothing.
+use mathlib.Core.Path.{_≡_, refl, ap}
+use mathlib.Core.Bool.{Bool, true, false}
+use mathlib.Core.List.{List}
+use Prim.Native.Nat.{ℕ, _+_, _≤_}
+use lib.Dec.{ltb, leb, eqb}
+use lib.ListN.{length, take}
+use borrow.Author.Tests.{ltb-false}
+use Rattle.base.specs.Choice.{pick}
+use Rattle.bundle.specs.Bundle.{wellFormed, countOf, slotOf}
+use Rattle.bundle.specs.declared.Slot.{Slot}
+use Rattle.bundle.specs.declared.Slot.the-variants as S
+use Rattle.image.specs.Image.{slotFor, rangeIn, rangeOf}
+use Rattle.image.specs.declared.ImageRange.the-variants as R
+use Rattle.command.specs.Command.{classOf}
+use Rattle.command.specs.declared.Class.{Class}
+use Rattle.command.specs.declared.Class.the-variants as C
+use Rattle.packet.specs.Packet.{commandField, lengthField, kindOf, packetWith, byClass, decodeOf}
+use Rattle.packet.specs.declared.Body.{Body}
+use Rattle.packet.specs.declared.Body.the-variants as Y
+use Rattle.packet.specs.declared.SaharaPacketBody.{SaharaPacketBody}
+use Rattle.packet.specs.declared.SaharaPacketBody.the-variants as B
+use Rattle.packet.specs.declared.Decoded.{Decoded}
+use Rattle.packet.specs.declared.Decoded.the-variants as D
+use Rattle.packet.proofs.Laws.{window}
+use Rattle.verdict.specs.Verdict.{imageFor, executeFor, oneSlot, room, onBody, onDecoded, verdictOf}
+use Rattle.verdict.specs.declared.ExecCommand.{ExecCommand}
+use Rattle.verdict.specs.declared.ExecCommand.the-variants as X
+use Rattle.verdict.specs.declared.Opening.{Opening}
+use Rattle.verdict.specs.declared.Verdict.{Verdict}
+use Rattle.verdict.specs.declared.Verdict.the-variants as W
+use Rattle.session.specs.declared.Answer.the-variants as A
+use Rattle.fetch.specs.Device.{aside}
+use Rattle.fetch.proofs.Basics.{split}
+use Rattle.fetch.proofs.Sent.{asks}
+
+-- the first 48 bytes of a packet say what the whole packet says
+pub verdict-window : (u : Opening) (set : List ℕ) (tsize rsize : ℕ) (p : List ℕ)
+    → verdictOf u set tsize rsize (take 48 p) ≡ verdictOf u set tsize rsize p
+unfolding verdictOf
+verdict-window u set tsize rsize p = ap (onDecoded u set tsize rsize) (window p)
+
+-- a refusal is none of those that leave all untouched
+abbrev pub Ends : ℕ → Type 0
+Ends why = aside (A.Refused why) ≡ false
+
+-- ---- what decoding refuses
+
+abbrev DecodedSane : Decoded → Type 0
+DecodedSane (D.Is p) = Unit
+DecodedSane (D.Refused why) = Ends why
+
+packet-sane : (len : ℕ) (b : Body) → DecodedSane (packetWith len b)
+packet-sane len (Y.Is b) = tt
+packet-sane len Y.Malformed = refl
+
+class-sane : (p : List ℕ) (c : Class) → DecodedSane (byClass p c)
+class-sane p (C.Kind k) = packet-sane (lengthField p) (kindOf p k)
+class-sane p C.Xml = refl
+class-sane p C.Unimplemented = refl
+class-sane p C.Unknown = refl
+
+decoded-sane : (p : List ℕ) → DecodedSane (decodeOf p)
+unfolding decodeOf
+decoded-sane p = split DecodedSane (ltb (length p) 8) (λ e. refl) (λ e. class-sane p (classOf (commandField p)))
+
+-- ---- what the verdict gives, the image set being well formed: a reply is no memory read; a table fits its room; a refusal ends the session
+
+abbrev pub Sane : ℕ → Verdict → Type 0
+Sane tsize (W.Reply q) = asks q ≡ false
+Sane tsize (W.Image x k) = Unit
+Sane tsize W.Pass = Unit
+Sane tsize (W.Finish how) = Unit
+Sane tsize (W.Respond c k) = Unit
+Sane tsize (W.Debug a k) = k ≤ room tsize
+Sane tsize (W.Refused why) = Ends why
+
+module _ (u : Opening) (set : List ℕ) (tsize rsize : ℕ) (good : wellFormed true set ≡ true) where
+  abbrev Fine : Verdict → Type 0
+  Fine v = Sane tsize v
+
+  slot-sane : (s : Slot) (offset len : ℕ) → Fine (imageFor (rangeIn s offset len))
+  slot-sane (S.At start size) offset len = go (leb (offset + len) size)
+    where
+      go : (b : Bool) → Fine (imageFor (pick b (R.At (start + offset) len) (R.Refused 13)))
+      go true = tt
+      go false = refl
+  slot-sane S.Absent offset len = refl
+  slot-sane S.Missing offset len = refl
+
+  image-sane : (id offset len : ℕ) → Fine (imageFor (rangeOf set id offset len))
+  unfolding rangeOf
+  image-sane id offset len = rw good (slot-sane (slotOf set (slotFor (countOf set) id)) offset len)
+
+  execute-sane : (c : ExecCommand) → Fine (executeFor c)
+  execute-sane (X.Is c) = refl
+  execute-sane X.None = refl
+
+  on-body : (len : ℕ) (b : SaharaPacketBody) → Fine (onBody u set tsize rsize len b)
+  on-body len (B.HelloReq b) = split Fine (eqb len 48) (λ e. refl) (λ e. refl)
+  on-body len (B.HelloResp b) = refl
+  on-body len (B.ReadReq b) = split Fine (eqb len 20) (λ e. image-sane (b .image) (b .offset) (b .len)) (λ e. refl)
+  on-body len (B.Eoi b) = split Fine (eqb len 16) (λ e. split Fine (eqb (b .status) 0) (λ i. refl) (λ i. refl)) (λ e. refl)
+  on-body len B.DoneReq = refl
+  on-body len (B.DoneResp b) = split Fine (eqb (b .status) 1) (λ e. tt) (λ e. split Fine (oneSlot set) (λ i. tt) (λ i. tt))
+  on-body len B.ResetResp = split Fine (eqb len 8) (λ e. tt) (λ e. refl)
+  on-body len B.CommandReady = split Fine (eqb len 8) (λ e. execute-sane (u .command)) (λ e. refl)
+  on-body len (B.ExecResp b) = split Fine (ltb rsize (b .len)) (λ e. refl) (λ e. tt)
+  on-body len (B.ExecData b) = refl
+  on-body len (B.Debug64Req b) =
+      split Fine (eqb len 24) (λ e. split Fine (ltb (room tsize) (b .len)) (λ i. refl) (λ i. ltb-false _ _ i)) (λ e. refl)
+  on-body len (B.ReadMem64Req b) = refl
+  on-body len (B.ReadData64Req b) = split Fine (eqb len 32) (λ e. image-sane (b .image) (b .offset) (b .len)) (λ e. refl)
+
+  on-decoded : (x : Decoded) → DecodedSane x → Fine (onDecoded u set tsize rsize x)
+  on-decoded (D.Is p) e = on-body (p .len) (p .body)
+  on-decoded (D.Refused why) e = e
+
+  pub sane : (p : List ℕ) → Sane tsize (verdictOf u set tsize rsize p)
+  unfolding verdictOf
+  sane p = on-decoded (decodeOf p) (decoded-sane p)

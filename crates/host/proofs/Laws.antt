@@ -1,0 +1,79 @@
+-- The step by its parts: refused for the image set or the names, else the phase with its own guard. Each goes by the tests. Assumes nothing.
+use mathlib.Core.Path.{_≡_, refl}
+use mathlib.Core.Bool.{Bool, true, false, not, _||_}
+use mathlib.Core.List.{List}
+use Prim.Native.Nat.{ℕ}
+use borrow.Author.Tests.{eq-eqb, ne-eqb}
+use lib.Dec.{ltb, eqb}
+use lib.ListN.{length}
+use Rattle.base.specs.Choice.{pick}
+use Rattle.bundle.specs.Bundle.{wellFormed}
+use Rattle.session.specs.declared.Phase.{Phase}
+use Rattle.session.specs.declared.Phase.the-variants as P
+use Rattle.session.specs.declared.Region.{Region}
+use Rattle.session.specs.declared.Session.{Session}
+use Rattle.session.specs.declared.Answer.the-variants as A
+use Rattle.session.specs.Step.{Outcome, ended, gives, readsLimit, phaseLimit, limitOf, onPhase, isEnded, untouched, stepOf, closedOf}
+use Rattle.host.specs.Host.{regionWaits}
+use Rattle.session.specs.Guard.{packetStep, responseStep, switchedStep, tableStep, betweenStep, regionStep}
+
+-- a session, a delivery, image set, names, table, reply and out buffers
+module _ (s : Session) (d set names t y o : List ℕ) where
+  -- the phase p with its guard
+  abbrev pub phaseStep : Phase → Outcome
+  phaseStep (P.Packet h) = packetStep s h d set t y o
+  phaseStep (P.Response x) = responseStep s x d t y o
+  phaseStep (P.Switched k) = switchedStep s k t y o
+  phaseStep (P.Table x) = tableStep s x d t y o
+  phaseStep (P.Between k i) = betweenStep s k i names t y o
+  phaseStep (P.Region k x) = regionStep s k x d t y o
+  phaseStep (P.Ended k) = pick (ltb (length o) 48) (untouched s 3 t y o) (untouched s 4 t y o)
+
+  -- what stands behind 1 and 2 in the step, by the phase
+  rest : (p : Phase)
+      → pick (ltb (length o) 48) (untouched s 3 t y o)
+      (pick (isEnded p) (untouched s 4 t y o)
+      (pick (readsLimit s || phaseLimit 8 (s .window) p t y) (untouched s 18 t y o) (onPhase s p d set names t y o)))
+      ≡ phaseStep p
+  unfolding packetStep responseStep switchedStep tableStep betweenStep regionStep
+  rest (P.Packet h) = refl
+  rest (P.Response x) = refl
+  rest (P.Switched k) = refl
+  rest (P.Table x) = refl
+  rest (P.Between k i) = refl
+  rest (P.Region k x) = refl
+  rest (P.Ended k) = refl
+
+  -- the image set is malformed
+  pub step-1 : wellFormed true set ≡ false → stepOf s d set names t y o ≡ untouched s 1 t y o
+  unfolding stepOf
+  step-1 e = rw e refl
+
+  -- the names are
+  pub step-2 : wellFormed true set ≡ true → wellFormed false names ≡ false → stepOf s d set names t y o ≡ untouched s 2 t y o
+  unfolding stepOf
+  step-2 e f = rw (e, f) refl
+
+  -- neither is
+  pub step-phase : wellFormed true set ≡ true → wellFormed false names ≡ true → stepOf s d set names t y o ≡ phaseStep (s .phase)
+  unfolding stepOf limitOf
+  step-phase e f = rw (e, f) (rest (s .phase))
+
+-- ---- waiting for bytes
+
+pub waits-due : (x : Region) → x .due ≡ true → regionWaits x ≡ false
+waits-due x d = rw d refl
+
+pub waits-none : (x : Region) → x .due ≡ false → x .outstanding ≡ 0 → regionWaits x ≡ false
+waits-none x d e = simp (d, eq-eqb _ _ e)
+
+pub waits-some : (x : Region) → x .due ≡ false → (x .outstanding ≡ 0 → ⊥) → regionWaits x ≡ true
+waits-some x d n = simp (d, ne-eqb _ _ n)
+
+-- ---- the channel's end
+
+pub closed-live : (s : Session) → isEnded (s .phase) ≡ false → closedOf s ≡ gives (ended s) 0 (A.Refused 23)
+closed-live s e = rw e refl
+
+pub closed-ended : (s : Session) → isEnded (s .phase) ≡ true → closedOf s ≡ gives s 0 (A.Refused 4)
+closed-ended s e = rw e refl

@@ -1,0 +1,79 @@
+-- `host::needs_bytes` meets its contract: by the phase. Assumes nothing.
+use mathlib.Core.Path.{_≡_, sym, ap, _∙_}
+use Rattle.session.specs.declared.Phase.the-variants as P
+use Rattle.host.specs.Host.{needsBytes}
+use borrow.Author.Needs.{needs}
+use Rattle.host.proofs.needs_bytes.Statement.{statement}
+use Rattle.host.proofs.needs_bytes.Tie as tie
+
+enum-told : tie.Need-enum-told
+enum-told c = search needs
+
+enum-known-p : tie.Need-enum-known-p
+enum-known-p c = search needs
+
+enum-told-2 : tie.Need-enum-told-2
+enum-told-2 c = search needs
+
+enum-known-p-2 : tie.Need-enum-known-p-2
+enum-known-p-2 c = search needs
+
+enum-told-3 : tie.Need-enum-told-3
+enum-told-3 c = search needs
+
+enum-known-p-3 : tie.Need-enum-known-p-3
+enum-known-p-3 c = search needs
+
+waiting-requires : tie.Need-waiting-requires
+waiting-requires c κs = search needs
+
+enum-told-4 : tie.Need-enum-told-4
+enum-told-4 c = search needs
+
+returns : tie.Need-returns
+returns c = search needs
+
+returns-2 : tie.Need-returns-2
+returns-2 c =
+    let e : c .before .before .before .before .args .s .phase ≡ P.Response (c .before .before .p .given .0 .0) = cc in
+    sym (ap needsBytes e)
+
+returns-3 : tie.Need-returns-3
+returns-3 c = search needs
+
+returns-4 : tie.Need-returns-4
+returns-4 c =
+    let e : c .before .before .before .before .args .s .phase ≡ P.Table (c .before .before .p2 .given .0 .0) = cc in
+    sym (ap needsBytes e)
+
+returns-5 : tie.Need-returns-5
+returns-5 c = search needs
+
+returns-6 : tie.Need-returns-6
+returns-6 c =
+    let a = c .before .before .before .before .args in
+    let e : a .s .phase ≡ P.Region (c .before .before .p3 .given .0 .0) (c .before .before .p3 .given .0 .1 .0) = cc in
+    (cc) ∙ sym (ap needsBytes e)
+
+returns-7 : tie.Need-returns-7
+returns-7 c = search needs
+
+pub needs-bytes-spec : {M : Type 1} → statement M
+needs-bytes-spec =
+    tie.close
+    (tie.spec
+    enum-told
+    enum-known-p
+    enum-told-2
+    enum-known-p-2
+    enum-told-3
+    enum-known-p-3
+    waiting-requires
+    enum-told-4
+    returns
+    returns-2
+    returns-3
+    returns-4
+    returns-5
+    returns-6
+    returns-7)

@@ -1,0 +1,107 @@
+// The limits of a session's counts: refusal 18. Sums are of mathematical integers: none is formed that could wrap.
+use field::Field4;
+use field::u32_at;
+use packet::LengthCheck;
+use packet::sahara_read_packet_length;
+use session::Filling;
+use session::Region;
+ghost use mathlib.Core.Path.{_≡_};
+ghost use mathlib.Core.Bool.{_||_};
+ghost use Prim.Native.Nat.{_+_, _^_};
+ghost use lib.Dec.{ltb};
+ghost use lib.ListN.{length};
+ghost use Rattle.packet.specs.Packet.{lengthField};
+ghost use Rattle.session.specs.Step.{entriesIn, heldLimit, fillingLimit, regionLimit};
+
+// Memory reads above 2^63 + 1.
+pub fn reads_limit(reads: u64) -> bool
+    ensures { λ r. ⌜ r ≡ ltb (2 ^ 63 + 1) reads ⌝ }
+{
+    9223372036854775809 < reads
+}
+
+// The length in the header of the packet that is held.
+pub fn length_in(window: [u8; 48]) -> u32
+    ensures { λ r. ⌜ r ≡ lengthField window ⌝ }
+{
+    match u32_at(&window, 4) {
+        Field4::Is(size) => size,
+        Field4::Short => 0,
+    }
+}
+
+// Held packet bytes above 4,095 or, from the eighth on, not below a length of 8..4096 in their header.
+pub fn held_limit(window: [u8; 48], held: usize) -> bool
+    ensures { λ r. ⌜ r ≡ heldLimit window held ⌝ }
+{
+    if 4095 < held {
+        return true;
+    }
+    if held < 8 {
+        return false;
+    }
+    let size = length_in(window);
+    let LengthCheck::Good = sahara_read_packet_length(size) else {
+        return true;
+    };
+    size as usize <= held
+}
+
+// A buffer shorter than the declared length, or more filled than that.
+pub fn filling_limit(x: Filling, buffer: &[u8]) -> bool
+    ensures { λ r. ⌜ r ≡ fillingLimit x (now (buffer .entry)) ⌝ }
+{
+    if buffer.len() < x.declared {
+        return true;
+    }
+    x.declared < x.filled
+}
+
+// A table buffer shorter than the table's length k, or an entry to go on from above its entries.
+pub fn between_limit(k: usize, i: usize, table: &[u8]) -> bool
+    ensures { λ r. ⌜ r ≡ (ltb (length (now (table .entry))) k || ltb (entriesIn 8 k) i) ⌝ }
+{
+    if table.len() < k {
+        return true;
+    }
+    k / 64 < i
+}
+
+// Base plus length above 2^64.
+pub fn past_memory(base: u64, len: u64) -> bool
+    ensures { λ r. ⌜ r ≡ ltb (256 ^ 8) (base + len) ⌝ }
+{
+    if len == 0 {
+        return false;
+    }
+    18446744073709551615 - base < len - 1
+}
+
+// Bytes done plus bytes outstanding above the region's length.
+fn past_region(len: u64, done: u64, outstanding: u64) -> bool
+    ensures { λ r. ⌜ r ≡ ltb len (done + outstanding) ⌝ }
+{
+    if len < done {
+        return true;
+    }
+    len - done < outstanding
+}
+
+// A table buffer shorter than the table's length k, an entry that is not there, or a region with more than its bytes or past the memory.
+pub fn region_limit(k: usize, x: Region, table: &[u8]) -> bool
+    ensures { λ r. ⌜ r ≡ regionLimit 8 k x (now (table .entry)) ⌝ }
+{
+    if table.len() < k {
+        return true;
+    }
+    if k / 64 <= x.entry {
+        return true;
+    }
+    if past_region(x.len, x.done, x.outstanding) {
+        return true;
+    }
+    if x.done + x.outstanding == 0 {
+        return false;
+    }
+    past_memory(x.base, x.len)
+}

@@ -1,0 +1,111 @@
+-- `packet_phase::body` meets its contract: by the answer about the length, then by what is left of the packet. Assumes nothing.
+use mathlib.Core.Path.{_≡_, sym, _∙_}
+use mathlib.Core.List.{List}
+use Prim.Native.Nat.{ℕ, _+_, _-_, _<_, _≤_, min}
+use native.Mathlib.Omega.{arith}
+use denote.Ref.{now}
+use borrow.Author.Tests.{lt-ltb, le-ltb}
+use lib.ListN.{length}
+use lib.Seq.{length-take-le}
+use Rattle.packet.specs.Packet.{badLength, lengthChecked}
+use Rattle.packet.specs.declared.LengthCheck.the-variants as L
+use Rattle.session.specs.Step.{bodyOf}
+use Rattle.limits.proofs.Laws.{good-length, refused-length}
+use borrow.Author.Needs.{needs}
+use Rattle.packet_phase.proofs.body.Statement.{statement}
+use Rattle.packet_phase.proofs.body.Tie as tie
+
+sahara-read-packet-length-requires : tie.Need-sahara-read-packet-length-requires
+sahara-read-packet-length-requires c κs = search needs
+
+enum-told : tie.Need-enum-told
+enum-told c = search needs
+
+enum-told-2 : tie.Need-enum-told-2
+enum-told-2 c = search needs
+
+rest-requires : tie.Need-rest-requires
+rest-requires c κs = search needs
+
+over-requires : tie.Need-over-requires
+over-requires c κs = search needs
+
+returns : tie.Need-returns
+unfolding bodyOf
+returns c =
+    let a = c .before .before .before .before .before .before .before .before .before .before .args in
+    let e : lengthChecked (a .size) ≡ L.Refused (c .before .before .enum-told2 .given .0 .0) = cc in
+    simp (refused-length (badLength (a .size)) _ e, c .over .ensures, c .before .rest .ensures)
+
+rest-requires-2 : tie.Need-rest-requires-2
+rest-requires-2 c κs = search needs
+
+least-requires : tie.Need-least-requires
+least-requires c κs = search needs
+
+slice-aggregate-kept : tie.Need-slice-aggregate-kept
+slice-aggregate-kept c =
+    let d : List ℕ = now (c .before .before .before .before .before .before .before .before .before .before .before .before .args .delivery) in
+    let l : c .before .before .least .result ≤ length d = omega arith in
+    sym (length-take-le _ d l)
+
+kept-requires : tie.Need-kept-requires
+kept-requires c κs = search needs
+
+add-holds : tie.Need-add-holds
+add-holds c = search needs
+
+holds-requires : tie.Need-holds-requires
+holds-requires c κs = search needs
+
+returns-2 : tie.Need-returns-2
+unfolding bodyOf
+returns-2 c =
+    let k = c .before .before in
+    let m = k .before .before .before in
+    let a = m .before .before .before .before .before .before .before .before .before .before .args in
+    let d : List ℕ = now (a .delivery) in
+    let e : lengthChecked (a .size) ≡ L.Good = cc in
+    let n : m .least .result ≡ min (a .size - a .held) (length d) = omega (arith, m .least .ensures, m .before .rest2 .ensures) in
+    let l : a .held + min (a .size - a .held) (length d) < a .size = omega (arith, c .before .if1 .taken, m .before .rest2 .ensures) in
+    simp (good-length (badLength (a .size)) e, lt-ltb _ _ l, c .holds .ensures, k .kept .ensures, n)
+
+whole-requires : tie.Need-whole-requires
+whole-requires c κs = search needs
+
+same-length : tie.Need-same-length
+same-length c = search needs
+
+returns-3 : tie.Need-returns-3
+unfolding bodyOf
+returns-3 c =
+    let i = c .before .before .before .before in
+    let k = i .before in
+    let m = k .before .before .before in
+    let a = m .before .before .before .before .before .before .before .before .before .before .args in
+    let d : List ℕ = now (a .delivery) in
+    let e : lengthChecked (a .size) ≡ L.Good = cc in
+    let n : m .least .result ≡ min (a .size - a .held) (length d) = omega (arith, m .least .ensures, m .before .rest2 .ensures) in
+    let l : a .size ≤ a .held + min (a .size - a .held) (length d) = omega (arith, i .if1 .left, m .before .rest2 .ensures) in
+    c .before .before .whole .ensures ∙ simp (good-length (badLength (a .size)) e, le-ltb _ _ l, k .kept .ensures, n)
+
+pub body-spec : {M : Type 1} → statement M
+body-spec =
+    tie.close
+    (tie.spec
+    sahara-read-packet-length-requires
+    enum-told
+    enum-told-2
+    rest-requires
+    over-requires
+    returns
+    rest-requires-2
+    least-requires
+    slice-aggregate-kept
+    kept-requires
+    add-holds
+    holds-requires
+    returns-2
+    whole-requires
+    same-length
+    returns-3)

@@ -1,0 +1,249 @@
+// The packet phase of a step: bytes are held up to the packet's end, then the packet is judged and acted on.
+use build::Built;
+use build::Request;
+use build::build;
+use copy::copy_into;
+use limits::held_limit;
+use limits::length_in;
+use limits::reads_limit;
+use packet::LengthCheck;
+use packet::sahara_read_packet_length;
+use session::Answer;
+use session::Filling;
+use session::Phase;
+use session::Session;
+use session::Stepped;
+use verdict::Verdict;
+use verdict::judge;
+ghost use mathlib.Core.Path.{_≡_};
+ghost use mathlib.Core.List.{List};
+ghost use Prim.Native.Nat.{ℕ, _-_, _≤_, min};
+ghost use lib.ListN.{length};
+ghost use Rattle.build.specs.Build.{sizeOf, front};
+ghost use Rattle.session.specs.Step.{outcome, gives, keep, reading, holding, ended, acted, wholeOf, bodyOf, packetOf};
+ghost use Rattle.session.specs.Guard.{packetStep};
+
+fn least(a: usize, b: usize) -> usize
+    ensures { λ r. ⌜ r ≡ min a b ⌝ }
+{
+    if a < b { a } else { b }
+}
+
+// What is left of a after b, or 0.
+fn rest(a: usize, b: usize) -> usize
+    ensures { λ r. ⌜ r ≡ a - b ⌝ }
+{
+    if b < a { a - b } else { 0 }
+}
+
+// The window with bytes x behind the held ones; what passes 48 bytes is not kept.
+fn kept(window: [u8; 48], held: usize, x: &[u8]) -> [u8; 48]
+    ensures { λ r. ⌜ r ≡ keep window held (now (x .entry)) ⌝ }
+{
+    let mut w = window;
+    let n = least(rest(48, held), x.len());
+    copy_into(&mut w, held, x, n);
+    w
+}
+
+// The session with another count of memory reads and another window, in another phase.
+fn next(s: Session, reads: u64, w: [u8; 48], phase: Phase) -> Session
+    ensures { λ r. ⌜ r ≡ reading (holding s w phase) reads phase ⌝ }
+{
+    let opening = s.opening;
+    Session {
+        opening: opening,
+        reads: reads,
+        window: w,
+        phase: phase,
+    }
+}
+
+// The session ended, with this answer.
+fn over(s: Session, taken: usize, answer: Answer) -> Stepped
+    ensures { λ r. ⌜ r ≡ gives (ended s) taken answer ⌝ }
+{
+    let w = s.window;
+    Stepped {
+        session: next(s, s.reads, w, Phase::Ended(0)),
+        taken: taken,
+        answer: answer,
+    }
+}
+
+// A packet to go on with: so many of its bytes are held.
+fn holds(s: Session, held: usize, w: [u8; 48], taken: usize, answer: Answer) -> Stepped
+    ensures { λ r. ⌜ r ≡ gives (holding s w (Phase.Packet held)) taken answer ⌝ }
+{
+    Stepped {
+        session: next(s, s.reads, w, Phase::Packet(held)),
+        taken: taken,
+        answer: answer,
+    }
+}
+
+// A packet sent; s is the session from then on.
+fn sent(s: Session, taken: usize, q: Request, out: &mut [u8]) -> Stepped
+    requires { ⌜ 48 ≤ length (now out) ⌝ }
+    ensures { λ r. ⌜ (r ≡ gives s taken (Answer.Send (sizeOf q))) × (now (out .exit) ≡ front q (now (out .entry))) ⌝ }
+{
+    match build(out, q) {
+        Built::Send(k) => Stepped {
+            session: s,
+            taken: taken,
+            answer: Answer::Send(k),
+        },
+        Built::Refused(why) => Stepped {
+            session: s,
+            taken: taken,
+            answer: Answer::Refused(why),
+        },
+    }
+}
+
+// What a verdict does; w is the window with the packet's bytes. It touches neither the table nor the reply buffer.
+fn act(s: Session, taken: usize, w: [u8; 48], v: Verdict, out: &mut [u8]) -> Stepped
+    requires { ⌜ 48 ≤ length (now out) ⌝ }
+    ensures { λ r. ⌜ ((t y : List ℕ) → outcome r t y (now (out .exit)) ≡ acted s taken w t y (now (out .entry)) v) ⌝ }
+{
+    match v {
+        Verdict::Reply(q) => sent(next(s, s.reads, w, Phase::Packet(0)), taken, q, out),
+        Verdict::Image(start, k) => holds(s, 0, w, taken, Answer::Image(start, k)),
+        Verdict::Pass => holds(s, 0, w, taken, Answer::Go),
+        Verdict::Finish(how) => over(s, taken, Answer::Finished(how, s.reads)),
+        Verdict::Respond(command, k) => {
+            let response = Filling {
+                declared: k,
+                filled: 0,
+            };
+            sent(
+                next(s, s.reads, w, Phase::Response(response)),
+                taken,
+                Request::ExecuteData(command),
+                out,
+            )
+        }
+        Verdict::Debug(addr, len) => {
+            let table = Filling {
+                declared: len as usize,
+                filled: 0,
+            };
+            sent(
+                next(s, 1, w, Phase::Table(table)),
+                taken,
+                Request::MemRead64(addr, len),
+                out,
+            )
+        }
+        Verdict::Refused(why) => over(s, taken, Answer::Refused(why)),
+    }
+}
+
+// The packet is whole: its bytes, or the first 48 of them, stand in the window w.
+fn whole(
+    s: Session,
+    taken: usize,
+    w: [u8; 48],
+    set: &[u8],
+    table: &[u8],
+    reply: &[u8],
+    out: &mut [u8],
+) -> Stepped
+    requires { ⌜ 48 ≤ length (now out) ⌝ }
+    ensures { λ r. ⌜ outcome r (now (table .entry)) (now (reply .entry)) (now (out .exit))
+        ≡ wholeOf s taken w (now (set .entry)) (now (table .entry)) (now (reply .entry)) (now (out .entry)) ⌝ }
+{
+    let opening = s.opening;
+    let k = least(length_in(w) as usize, 48);
+    let v = judge(opening, set, table.len(), reply.len(), &w[..k]);
+    act(s, taken, w, v, out)
+}
+
+// The header is whole, and size is its length field.
+fn body(
+    s: Session,
+    held: usize,
+    delivery: &[u8],
+    size: u32,
+    set: &[u8],
+    table: &[u8],
+    reply: &[u8],
+    out: &mut [u8],
+) -> Stepped
+    requires { ⌜ 48 ≤ length (now out) ⌝ }
+    ensures { λ r. ⌜ outcome r (now (table .entry)) (now (reply .entry)) (now (out .exit))
+        ≡ bodyOf s held (now (delivery .entry)) size (now (set .entry)) (now (table .entry)) (now (reply .entry)) (now (out .entry)) ⌝ }
+{
+    let LengthCheck::Good = sahara_read_packet_length(size) else {
+        return over(s, rest(8, held), Answer::Refused(5));
+    };
+    let left = rest(size as usize, held);
+    let n = least(left, delivery.len());
+    let old = s.window;
+    let w = kept(old, held, &delivery[..n]);
+    if n < left {
+        return holds(s, held + n, w, n, Answer::Go);
+    }
+    whole(s, n, w, set, table, reply, out)
+}
+
+// Bytes of a packet, up to its end.
+fn packet(
+    s: Session,
+    held: usize,
+    delivery: &[u8],
+    set: &[u8],
+    table: &[u8],
+    reply: &[u8],
+    out: &mut [u8],
+) -> Stepped
+    requires { ⌜ 48 ≤ length (now out) ⌝ }
+    ensures { λ r. ⌜ outcome r (now (table .entry)) (now (reply .entry)) (now (out .exit))
+        ≡ packetOf s held (now (delivery .entry)) (now (set .entry)) (now (table .entry)) (now (reply .entry)) (now (out .entry)) ⌝ }
+{
+    let n = delivery.len();
+    let old = s.window;
+    let w = kept(old, held, delivery);
+    if n < rest(8, held) {
+        return holds(s, held + n, w, n, Answer::Go);
+    }
+    body(s, held, delivery, length_in(w), set, table, reply, out)
+}
+
+// A step of the packet phase, h bytes of a packet being held: 3, then 18, then the packet's bytes.
+pub fn packet_step(
+    s: Session,
+    held: usize,
+    delivery: &[u8],
+    set: &[u8],
+    table: &[u8],
+    reply: &[u8],
+    out: &mut [u8],
+) -> Stepped
+    ensures { λ r. ⌜ outcome r (now (table .entry)) (now (reply .entry)) (now (out .exit))
+        ≡ packetStep s held (now (delivery .entry)) (now (set .entry)) (now (table .entry)) (now (reply .entry)) (now (out .entry)) ⌝ }
+{
+    if out.len() < 48 {
+        return Stepped {
+            session: s,
+            taken: 0,
+            answer: Answer::Refused(3),
+        };
+    }
+    if reads_limit(s.reads) {
+        return Stepped {
+            session: s,
+            taken: 0,
+            answer: Answer::Refused(18),
+        };
+    }
+    let w = s.window;
+    if held_limit(w, held) {
+        return Stepped {
+            session: s,
+            taken: 0,
+            answer: Answer::Refused(18),
+        };
+    }
+    packet(s, held, delivery, set, table, reply, out)
+}

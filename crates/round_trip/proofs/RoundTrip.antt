@@ -1,0 +1,59 @@
+-- Decoding what was built gives what was meant, for each built kind that is decoded and for all field values. The header and the small fields compute; the
+-- two numbers of a memory read are read back by the fields' law. Assumes nothing.
+use mathlib.Core.Path.{_≡_, refl}
+use mathlib.Core.List.{[], _++_}
+use Prim.Native.Nat.{ℕ, _^_, _<_}
+use Rattle.field.specs.Field.{le, leBytes}
+use Rattle.field.proofs.Laws.{le-of-bytes}
+use Rattle.command.specs.Command.{modeOf, commandOf, kinds, classOf}
+use Rattle.command.specs.declared.SaharaMode.{SaharaMode}
+use Rattle.command.specs.declared.SaharaMode.the-variants as M
+use Rattle.command.specs.declared.SaharaCmdModeCmd.{SaharaCmdModeCmd}
+use Rattle.command.specs.declared.SaharaCmdModeCmd.the-variants as E
+use Rattle.packet.specs.Packet.{kindOf, decodeOf}
+use Rattle.packet.specs.declared.SaharaPacketBody.{SaharaPacketBody}
+use Rattle.packet.specs.declared.SaharaPacketBody.the-variants as B
+use Rattle.packet.specs.declared.Decoded.{Decoded}
+use Rattle.packet.specs.declared.Decoded.the-variants as D
+use Rattle.build.specs.Build.{fields, bytesOf}
+use Rattle.build.specs.declared.Request.the-variants as Q
+
+abbrev packet : ℕ → SaharaPacketBody → Decoded
+packet n b = D.Is (record { len = n; body = b })
+
+-- version 2, compatible 1, status 0, the mode, zeros
+pub hello-resp : (m : SaharaMode) → decodeOf (bytesOf (Q.HelloResp m))
+    ≡ packet 48
+    (B.HelloResp
+    (record {
+      ver = 2;
+      compatible = 1;
+      status = 0;
+      mode = m;
+      unk = record { unk0 = 0; unk1 = 0; unk2 = 0; unk3 = 0; unk4 = 0; unk5 = 0 };
+    }))
+unfolding decodeOf kindOf classOf kinds modeOf bytesOf fields le leBytes
+hello-resp M.WaitingForImage = refl
+hello-resp M.MemoryDebug = refl
+hello-resp M.Command = refl
+
+pub done : decodeOf (bytesOf Q.Done) ≡ packet 8 B.DoneReq
+unfolding decodeOf kindOf classOf kinds bytesOf fields le leBytes
+done = refl
+
+pub execute-data : (c : SaharaCmdModeCmd) → decodeOf (bytesOf (Q.ExecuteData c)) ≡ packet 12 (B.ExecData (record { command = c }))
+unfolding decodeOf kindOf classOf kinds commandOf bytesOf fields le leBytes
+execute-data E.Nop = refl
+execute-data E.ReadSerialNum = refl
+execute-data E.ReadHwId = refl
+execute-data E.ReadOemKeyHash = refl
+
+-- an address and a length of 8 bytes each
+read-back : (a k : ℕ) → decodeOf (bytesOf (Q.MemRead64 a k))
+    ≡ packet 24 (B.ReadMem64Req (record { addr = le 8 (leBytes 8 a ++ (leBytes 8 k ++ [])); len = le 8 (leBytes 8 k ++ []) }))
+unfolding decodeOf kindOf classOf kinds bytesOf fields le leBytes
+read-back a k = refl
+
+pub mem-read64 : (a k : ℕ) → a < 256 ^ 8 → k < 256 ^ 8
+    → decodeOf (bytesOf (Q.MemRead64 a k)) ≡ packet 24 (B.ReadMem64Req (record { addr = a; len = k }))
+mem-read64 a k ha hk = rw (read-back a k, le-of-bytes 8 a (leBytes 8 k ++ []) ha, le-of-bytes 8 k [] hk) refl

@@ -1,0 +1,331 @@
+// Replays conversations from standard input and prints a line a step: bytes taken, answer, number, and what else the answer tells.
+// A conversation is ten words (mode, command or 4, backend, delivery size, sizes of the out, table and reply buffers, lengths of the image set, the names
+// and the device's bytes) and these three.
+use command::CommandOf;
+use command::ModeOf;
+use command::SaharaMode;
+use field::Field4;
+use session::Answer;
+use session::Phase;
+use session::Session;
+use verdict::ExecCommand;
+use verdict::QdlBackend;
+ghost use Prim.Native.Nat.{_+_, _≤_, _<_};
+ghost use lib.ListN.{length};
+ghost use Rattle.runs.specs.Case.{Placed};
+
+struct Case {
+    mode: u32,
+    command: u32,
+    backend: u32,
+    size: usize,
+    out: usize,
+    table: usize,
+    reply: usize,
+    set: usize,
+    names: usize,
+    feed: usize,
+    end: usize,
+}
+
+// A delivery, from..to of the input, and whether the device's bytes are over.
+struct Feed {
+    from: usize,
+    to: usize,
+    over: bool,
+}
+
+fn least(a: usize, b: usize) -> usize
+    ensures { λ r. ⌜ (r ≤ a) × (r ≤ b) ⌝ }
+{
+    if a < b { a } else { b }
+}
+
+fn word(input: &[u8], at: usize) -> u32 {
+    match field::u32_at(input, at) {
+        Field4::Is(v) => v,
+        Field4::Short => 0,
+    }
+}
+
+// A length at a place, at most what is left.
+fn part(input: &[u8], at: usize, from: usize) -> usize
+    requires { ⌜ from ≤ length (now input) ⌝ }
+    ensures { λ r. ⌜ from + r ≤ length (now (input .entry)) ⌝ }
+{
+    let n = word(input, at) as usize;
+    least(n, input.len() - from)
+}
+
+// The case whose words begin at a place.
+fn case_at(input: &[u8], at: usize) -> Case
+    requires { ⌜ at + 40 ≤ length (now input) ⌝ }
+    ensures { λ r. ⌜ Placed (at + 40) (r .set) (r .names) (r .feed) (r .end) (length (now (input .entry))) ⌝ }
+{
+    let set = at + 40;
+    let names = set + part(input, at + 28, set);
+    let feed = names + part(input, at + 32, names);
+    let end = feed + part(input, at + 36, feed);
+    Case {
+        mode: word(input, at),
+        command: word(input, at + 4),
+        backend: word(input, at + 8),
+        size: word(input, at + 12) as usize,
+        out: word(input, at + 16) as usize,
+        table: word(input, at + 20) as usize,
+        reply: word(input, at + 24) as usize,
+        set: set,
+        names: names,
+        feed: feed,
+        end: end,
+    }
+}
+
+fn mode_for(n: u32) -> SaharaMode {
+    match command::mode_of(n) {
+        ModeOf::Is(m) => m,
+        ModeOf::Bad => SaharaMode::WaitingForImage,
+    }
+}
+
+fn command_for(n: u32) -> ExecCommand {
+    match command::command_of(n) {
+        CommandOf::Is(c) => ExecCommand::Is(c),
+        CommandOf::Bad => ExecCommand::None,
+    }
+}
+
+fn backend_for(n: u32) -> QdlBackend {
+    if n == 0 {
+        return QdlBackend::Serial;
+    }
+    QdlBackend::Usb
+}
+
+fn digit(n: u8) -> u8
+    requires { ⌜ n < 16 ⌝ }
+{
+    if n < 10 {
+        return b'0' + n;
+    }
+    b'a' + (n - 10)
+}
+
+fn print_hex(s: &[u8]) {
+    let mut i: usize = 0;
+    while i < s.len() {
+        let b = s[i];
+        let two = [digit(b / 16), digit(b % 16)];
+        io::write_all(1, &two);
+        i += 1;
+    }
+}
+
+fn line(taken: usize, word: &[u8], number: u64) {
+    io::print_decimal(1, taken as u64);
+    io::write_all(1, word);
+    io::print_decimal(1, number);
+}
+
+fn detail(s: &[u8]) {
+    if s.len() == 0 {
+        return;
+    }
+    io::write_all(1, b" ");
+    print_hex(s);
+}
+
+fn first(s: &[u8], n: usize) {
+    let k = least(n, s.len());
+    detail(&s[..k]);
+}
+
+fn image(taken: usize, set: &[u8], start: usize, k: usize) {
+    line(taken, b" image ", k as u64);
+    io::write_all(1, b" ");
+    io::print_decimal(1, start as u64);
+    if start <= set.len() {
+        first(&set[start..], k);
+    }
+}
+
+fn finished(taken: usize, how: u8, reads: u64) {
+    line(taken, b" finished ", how as u64);
+    io::write_all(1, b" ");
+    io::print_decimal(1, reads);
+}
+
+// Prints a step; true where the session goes on.
+fn told(taken: usize, a: Answer, set: &[u8], out: &[u8]) -> bool {
+    match a {
+        Answer::Go => {
+            line(taken, b" go ", 0);
+            true
+        }
+        Answer::Send(k) => {
+            line(taken, b" send ", k as u64);
+            first(out, k);
+            true
+        }
+        Answer::Image(start, k) => {
+            image(taken, set, start, k);
+            true
+        }
+        Answer::Open(i) => {
+            line(taken, b" open ", i as u64);
+            true
+        }
+        Answer::Bytes(k) => {
+            line(taken, b" bytes ", k as u64);
+            true
+        }
+        Answer::EmptyRead => {
+            line(taken, b" empty read ", 0);
+            true
+        }
+        Answer::Close(i) => {
+            line(taken, b" close ", i as u64);
+            true
+        }
+        Answer::Finished(how, reads) => {
+            finished(taken, how, reads);
+            false
+        }
+        Answer::Refused(why) => {
+            line(taken, b" refused ", why as u64);
+            false
+        }
+    }
+}
+
+// The reply of a session that finished (4).
+fn replied(a: Answer, p: Phase, reply: &[u8]) {
+    if let Answer::Finished(how, _) = a {
+        if how != 4 {
+            return;
+        }
+    } else {
+        return;
+    }
+    if let Phase::Ended(k) = p {
+        io::write_all(1, b"reply");
+        if k == 0 {
+            io::write_all(1, b" -");
+        }
+        first(reply, k);
+        io::write_all(1, b"\n");
+    }
+}
+
+// The next delivery, where this one is used up.
+fn refill(f: Feed, size: usize, end: usize) -> Feed
+    requires { ⌜ (f .from ≤ f .to) × (f .to ≤ end) ⌝ }
+    ensures { λ r. ⌜ (r .from ≤ r .to) × (r .to ≤ end) ⌝ }
+{
+    if f.from < f.to {
+        return f;
+    }
+    if f.over {
+        return f;
+    }
+    let n = least(size, end - f.to);
+    Feed {
+        from: f.to,
+        to: f.to + n,
+        over: n == 0,
+    }
+}
+
+// One conversation.
+fn run(input: &[u8], c: Case, table: &mut [u8], reply: &mut [u8], out: &mut [u8])
+    requires { ⌜ Placed 0 (c .set) (c .names) (c .feed) (c .end) (length (now input)) ⌝ }
+{
+    let set = c.set;
+    let names = c.names;
+    let feed = c.feed;
+    let end = c.end;
+    let mut s = host::open(
+        mode_for(c.mode),
+        command_for(c.command),
+        backend_for(c.backend),
+    );
+    let mut f = Feed {
+        from: feed,
+        to: feed,
+        over: false,
+    };
+    let mut turns: u64 = 0;
+    while turns < 1000000000 {
+        turns += 1;
+        f = refill(f, c.size, end);
+        if f.over {
+            if host::needs_bytes(s) {
+                let r = host::closed(s);
+                let a = r.answer;
+                told(0, a, b"", b"");
+                io::write_all(1, b"\n");
+                return;
+            }
+        }
+        let from = f.from;
+        let to = f.to;
+        let r = host::step(
+            s,
+            &input[from..to],
+            &input[set..names],
+            &input[names..feed],
+            table,
+            reply,
+            out,
+        );
+        let a = r.answer;
+        let p = r.session.phase;
+        let taken = r.taken;
+        let more = told(taken, a, &input[set..names], out);
+        io::write_all(1, b"\n");
+        replied(a, p, reply);
+        if !more {
+            return;
+        }
+        f = Feed {
+            from: from + least(taken, to - from),
+            to: to,
+            over: f.over,
+        };
+        s = r.session;
+    }
+}
+
+// One conversation, with buffers of the sizes that it asks for.
+fn replay(input: &[u8], c: Case, table: &mut [u8], reply: &mut [u8], out: &mut [u8])
+    requires { ⌜ Placed 0 (c .set) (c .names) (c .feed) (c .end) (length (now input)) ⌝ }
+{
+    let t = least(c.table, table.len());
+    let y = least(c.reply, reply.len());
+    let o = least(c.out, out.len());
+    run(input, c, &mut table[..t], &mut reply[..y], &mut out[..o]);
+}
+
+fn all(input: &[u8], table: &mut [u8], reply: &mut [u8], out: &mut [u8]) {
+    let mut at: usize = 0;
+    while at < input.len() {
+        if input.len() - at < 40 {
+            return;
+        }
+        if 0 < at {
+            io::write_all(1, b"\n");
+        }
+        let c = case_at(input, at);
+        replay(input, c, table, reply, out);
+        at = c.end;
+    }
+}
+
+fn main() {
+    let mut input = [0u8; 262144];
+    let mut table = [0u8; 65536];
+    let mut reply = [0u8; 8192];
+    let mut out = [0u8; 64];
+    let n = io::read_full(0, &mut input);
+    all(&input[..n], &mut table, &mut reply, &mut out);
+}

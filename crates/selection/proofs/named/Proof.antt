@@ -1,0 +1,230 @@
+-- `selection::named` meets its contract. The invariants: the search from here on is the whole search, for the names and for a stem's bytes.
+-- Assumes nothing.
+use mathlib.Core.Path.{_≡_, refl, sym, ap, _∙_}
+use mathlib.Core.Bool.{true, false}
+use mathlib.Core.List.{List, [], _∷_, map}
+use mathlib.Core.Logic.{⊎-elim}
+use Prim.Native.Nat.{ℕ, _+_, _-_, _≤_, _<_}
+use native.Mathlib.Omega.{arith}
+use denote.Enum.Declared.{tagOf}
+use denote.Ref.{now}
+use lib.Dec.{eqb}
+use lib.ListN.{length, take, drop, getD, length-take, length-drop}
+use lib.Seq.{getD-take, getD-drop}
+use types.Run.{OneOf}
+use Rattle.base.specs.Choice.{pick}
+use borrow.Author.Tests.{eq-eqb, ne-eqb}
+use Rattle.bundle.proofs.Laws.{slot-within}
+use Rattle.bundle.specs.Bundle.{slotOf}
+use Rattle.bundle.proofs.Slot.{the-type}
+use Rattle.bundle.specs.declared.Slot.{Slot}
+use Rattle.bundle.specs.declared.Slot.the-variants as S
+use Rattle.selection.specs.Selection.{low, same}
+use Rattle.selection.proofs.Laws.{namedFrom, named-done, named-at, named-absent, named-missing, same-step, same-done, named-unequal, named-all}
+use borrow.Author.Needs.{needs}
+use Rattle.selection.proofs.named.Statement.{statement}
+use Rattle.selection.proofs.named.Tie as tie
+
+-- inside the name of slot i, j of whose bytes are the stem's: the whole search is the rest of this name, then the names behind it
+record Inside (names : List ℕ) (n : ℕ) (stem : List ℕ) (start size i j : ℕ) : Type 0 where
+  below : i < n
+  within : start + size ≤ length names
+  long : size ≡ length stem
+  passed : j ≤ size
+  whole :
+      namedFrom names n stem 0
+      ≡ pick (same (map low (drop j stem)) (map low (drop j (take size (drop start names))))) true (namedFrom names n stem (i + 1))
+
+module _ {names : List ℕ} {n : ℕ} {stem : List ℕ} {start size i j : ℕ} (t : Inside names n stem start size i j) where
+  abbrev name : List ℕ
+  name = take size (drop start names)
+
+  length-name : length name ≡ size
+  length-name = simp (length-take, length-drop) (omega arith)
+
+  byte-of : j < size → getD name j 0 ≡ getD names (start + j) 0
+  byte-of h = rw (getD-take, getD-drop) refl
+
+  -- all bytes are the stem's: found
+  inside-all : size ≤ j → namedFrom names n stem 0 ≡ true
+  inside-all h = t .whole ∙ simp (same-done stem name j (omega arith) (omega (arith, length-name)))
+
+  -- a byte differs: on with the names behind
+  inside-differs : j < size → (low (getD names (start + j) 0) ≡ low (getD stem j 0) → ⊥) → namedFrom names n stem 0 ≡ namedFrom names n stem (i + 1)
+  inside-differs h d =
+      let e : eqb (low (getD stem j 0)) (low (getD name j 0)) ≡ false = ne-eqb _ _ (λ q. d (sym (q ∙ ap low (byte-of h)))) in
+      t .whole ∙ simp (same-step stem name j (omega arith) (omega (arith, length-name)), e)
+
+  -- a byte is the stem's: on with the next
+  inside-next : j < size → low (getD names (start + j) 0) ≡ low (getD stem j 0) → Inside names n stem start size i (j + 1)
+  inside-next h q =
+      let e : eqb (low (getD stem j 0)) (low (getD name j 0)) ≡ true = eq-eqb _ _ (sym (ap low (byte-of h) ∙ q)) in
+      record {
+        below = t .below;
+        within = t .within;
+        long = t .long;
+        passed = omega arith;
+        whole = t .whole ∙ simp (same-step stem name j (omega arith) (omega (arith, length-name)), e);
+      }
+
+abbrev Inv-loop : tie.InvT-loop
+Inv-loop names n stem found₀ i₀ start size j₀ found i j = (i ≡ i₀) × (found ≡ false) × Inside names n stem start size i j
+
+abbrev μ-loop : tie.MeasureT-loop
+μ-loop names n stem found₀ i₀ start size j₀ found i j = size - j
+
+abbrev Inv-names : tie.InvT-names
+Inv-names names n stem found₀ i₀ found i = (i ≤ n) × (found ≡ false) × (namedFrom names n stem 0 ≡ namedFrom names n stem i)
+
+abbrev μ-names : tie.MeasureT-names
+μ-names names n stem found₀ i₀ found i = n - i
+
+-- a slot that is not `At` has no name
+nameless : (b : List ℕ) (n : ℕ) (stem : List ℕ) (i : ℕ) (x : Slot) → i < n → OneOf (1 ∷ 2 ∷ []) (tagOf the-type x) → slotOf b i ≡ x
+    → namedFrom b n stem i ≡ namedFrom b n stem (i + 1)
+nameless b n stem i (S.At start size) h k e = absurd (⊎-elim (λ q. omega arith) (λ q. omega arith) k)
+nameless b n stem i S.Absent h k e = named-absent b n stem i h e
+nameless b n stem i S.Missing h k e = named-missing b n stem i h e
+
+names-holds : tie.Need-names-holds Inv-loop μ-loop Inv-names μ-names
+names-holds c = (omega arith, refl, refl)
+
+slot-at-requires : tie.Need-slot-at-requires Inv-loop μ-loop Inv-names μ-names
+slot-at-requires c κs = search needs
+
+enum-known-s : tie.Need-enum-known-s Inv-loop μ-loop Inv-names μ-names
+enum-known-s c = search needs
+
+add-i : tie.Need-add-i Inv-loop μ-loop Inv-names μ-names
+add-i c = search needs
+
+names-less : tie.Need-names-less Inv-loop μ-loop Inv-names μ-names
+names-less c = search needs
+
+names-again : tie.Need-names-again Inv-loop μ-loop Inv-names μ-names
+names-again c =
+    let a = c .before .before .before .before .before .before .args in
+    let o = c .before .before .before .names in
+    let r = c .before .slot-at in
+    let e = nameless (now (a .names)) (a .n) (now (a .stem)) (o .i) (r .result) (omega arith) (c .match .keys2) (sym (r .ensures)) in
+    (omega arith, o .inv .1, o .inv .2 ∙ e)
+
+add-i-2 : tie.Need-add-i-2 Inv-loop μ-loop Inv-names μ-names
+add-i-2 c = search needs
+
+names-less-2 : tie.Need-names-less-2 Inv-loop μ-loop Inv-names μ-names
+names-less-2 c = search needs
+
+names-again-2 : tie.Need-names-again-2 Inv-loop μ-loop Inv-names μ-names
+names-again-2 c =
+    let a = c .before .before .before .before .before .before .before .before .before .args in
+    let o = c .before .before .before .before .before .before .names in
+    let start = c .before .before .s .given .0 .0 in
+    let size = c .before .before .s .given .0 .1 .0 in
+    let names : List ℕ = now (a .names) in
+    let stem : List ℕ = now (a .stem) in
+    let e : slotOf names (o .i) ≡ S.At start size = cc in
+    (omega arith, o .inv .1, o .inv .2 ∙ named-unequal names (a .n) stem (o .i) start size (omega arith) e (λ q. omega arith))
+
+loop-holds : tie.Need-loop-holds Inv-loop μ-loop Inv-names μ-names
+loop-holds c =
+    let a = c .before .before .before .before .before .before .before .before .before .args in
+    let o = c .before .before .before .before .before .before .names in
+    let start = c .before .before .s .given .0 .0 in
+    let size = c .before .before .s .given .0 .1 .0 in
+    let names : List ℕ = now (a .names) in
+    let e : slotOf names (o .i) ≡ S.At start size = cc in (
+      refl,
+      o .inv .1,
+      record {
+        below = omega arith;
+        within = slot-within names (o .i) start size e;
+        long = omega arith;
+        passed = omega arith;
+        whole = o .inv .2 ∙ named-at names (a .n) (now (a .stem)) (o .i) start size (omega arith) e;
+      },
+    )
+
+add-lower : tie.Need-add-lower Inv-loop μ-loop Inv-names μ-names
+add-lower c = omega (arith, c .before .loop .inv .2)
+
+shared-slice-read-lower : tie.Need-shared-slice-read-lower Inv-loop μ-loop Inv-names μ-names
+shared-slice-read-lower c = omega (arith, c .before .before .loop .inv .2)
+
+lower-requires : tie.Need-lower-requires Inv-loop μ-loop Inv-names μ-names
+lower-requires c κs = search needs
+
+shared-slice-read-lower-2 : tie.Need-shared-slice-read-lower-2 Inv-loop μ-loop Inv-names μ-names
+shared-slice-read-lower-2 c = omega (arith, c .before .before .before .before .loop .inv .2)
+
+lower-requires-2 : tie.Need-lower-requires-2 Inv-loop μ-loop Inv-names μ-names
+lower-requires-2 c κs = search needs
+
+add-i-3 : tie.Need-add-i-3 Inv-loop μ-loop Inv-names μ-names
+add-i-3 c = search needs
+
+names-less-3 : tie.Need-names-less-3 Inv-loop μ-loop Inv-names μ-names
+names-less-3 c = omega (arith, c .before .before .before .before .before .before .loop .inv .2)
+
+names-again-3 : tie.Need-names-again-3 Inv-loop μ-loop Inv-names μ-names
+names-again-3 c =
+    let l = c .before .before .before .before .before .before .loop in
+    let t = l .inv .2 in
+    (omega arith, l .inv .1, inside-differs t (omega arith) (λ q. c .if3 .taken (cc)))
+
+add-j : tie.Need-add-j Inv-loop μ-loop Inv-names μ-names
+add-j c = search needs
+
+loop-less : tie.Need-loop-less Inv-loop μ-loop Inv-names μ-names
+loop-less c = search needs
+
+loop-again : tie.Need-loop-again Inv-loop μ-loop Inv-names μ-names
+loop-again c =
+    let l = c .before .before .before .before .before .before .loop in
+    let t = l .inv .2 in
+    (l .inv .0, l .inv .1, inside-next t (omega arith) (cc))
+
+returns : tie.Need-returns Inv-loop μ-loop Inv-names μ-names
+returns c =
+    let a = c .before .before .before .before .args in
+    let o = c .before .names in
+    let names : List ℕ = now (a .names) in
+    let stem : List ℕ = now (a .stem) in
+    o .inv .1 ∙ sym (named-all names (a .n) stem ∙ o .inv .2 ∙ named-done names (a .n) stem (o .i) (omega arith))
+
+returns-2 : tie.Need-returns-2 Inv-loop μ-loop Inv-names μ-names
+returns-2 c =
+    let a = c .before .before .before .before .before .before .before .before .before .before .before .args in
+    sym (named-all (now (a .names)) (a .n) (now (a .stem)) ∙ inside-all (c .before .loop .inv .2) (omega (arith, c .before .loop .inv .2)))
+
+pub named-spec : {M : Type 1} → statement M
+named-spec =
+    tie.close
+    (tie.spec
+    Inv-loop
+    μ-loop
+    Inv-names
+    μ-names
+    names-holds
+    slot-at-requires
+    enum-known-s
+    add-i
+    names-less
+    names-again
+    add-i-2
+    names-less-2
+    names-again-2
+    loop-holds
+    add-lower
+    shared-slice-read-lower
+    lower-requires
+    shared-slice-read-lower-2
+    lower-requires-2
+    add-i-3
+    names-less-3
+    names-again-3
+    add-j
+    loop-less
+    loop-again
+    returns
+    returns-2)

@@ -1,0 +1,74 @@
+-- `selection::next_selected` meets its contract. The loop's invariant: the search from here on is the whole search. Assumes nothing.
+use mathlib.Core.Path.{_≡_, refl, sym, ap, _∙_}
+use Prim.Native.Nat.{ℕ, suc, _+_, _-_}
+use mathlib.Core.Bool.{true, false}
+use mathlib.Core.List.{List}
+use native.Mathlib.Numerals.{add-one}
+use native.Mathlib.Omega.{arith}
+use denote.Ref.{now}
+use Rattle.selection.specs.Selection.{selectedAt, nextOf}
+use Rattle.selection.proofs.Laws.{next-here, next-on, next-none}
+use borrow.Author.Needs.{needs}
+use Rattle.selection.proofs.next_selected.Statement.{statement}
+use Rattle.selection.proofs.next_selected.Tie as tie
+
+abbrev Inv-loop : tie.InvT-loop
+Inv-loop table entries names from i₀ i = nextOf 8 names table (entries - from) from ≡ nextOf 8 names table (entries - i) i
+
+abbrev μ-loop : tie.MeasureT-loop
+μ-loop table entries names from i₀ i = entries - i
+
+loop-holds : tie.Need-loop-holds Inv-loop μ-loop
+loop-holds c = refl
+
+is-selected-requires : tie.Need-is-selected-requires Inv-loop μ-loop
+is-selected-requires c κs = search needs
+
+returns : tie.Need-returns Inv-loop μ-loop
+returns c =
+    let a = c .before .before .before .before .before .before .args in
+    let l = c .before .before .before .loop in
+    let t : List ℕ = now (a .table) in
+    let names : List ℕ = now (a .names) in
+    let k : a .entries - l .i ≡ suc (a .entries - (l .i + 1)) = omega arith in
+    let s : selectedAt 8 names t (l .i) ≡ true = sym (c .before .is-selected .ensures) ∙ c .if1 .taken in
+    sym (l .inv ∙ ap (λ (k : ℕ). nextOf 8 names t k (l .i)) k ∙ next-here 8 names t (a .entries - (l .i + 1)) (l .i) s)
+
+add-i : tie.Need-add-i Inv-loop μ-loop
+add-i c = omega arith
+
+loop-less : tie.Need-loop-less Inv-loop μ-loop
+loop-less c = omega arith
+
+loop-again : tie.Need-loop-again Inv-loop μ-loop
+loop-again c =
+    let a = c .before .before .before .before .before .before .args in
+    let l = c .before .before .before .loop in
+    let t : List ℕ = now (a .table) in
+    let names : List ℕ = now (a .names) in
+    let k : a .entries - l .i ≡ suc (a .entries - (l .i + 1)) = omega arith in
+    let s : selectedAt 8 names t (l .i) ≡ false = sym (c .before .is-selected .ensures) ∙ c .if1 .left in
+    l .inv ∙ ap (λ (k : ℕ). nextOf 8 names t k (l .i)) k ∙ next-on 8 names t (a .entries - (l .i + 1)) (l .i) s ∙ rw add-one refl
+
+returns-2 : tie.Need-returns-2 Inv-loop μ-loop
+returns-2 c =
+    let a = c .before .before .before .before .args in
+    let l = c .before .loop in
+    let t : List ℕ = now (a .table) in
+    let names : List ℕ = now (a .names) in
+    let k : a .entries - l .i ≡ 0 = omega arith in
+    sym (l .inv ∙ ap (λ (k : ℕ). nextOf 8 names t k (l .i)) k ∙ next-none 8 names t (l .i))
+
+pub next-selected-spec : {M : Type 1} → statement M
+next-selected-spec =
+    tie.close
+    (tie.spec
+    Inv-loop
+    μ-loop
+    loop-holds
+    is-selected-requires
+    returns
+    add-i
+    loop-less
+    loop-again
+    returns-2)

@@ -1,0 +1,52 @@
+-- A phase of a step by itself, for a session in any state: 3 and 18 first, as in the step, then the phase. The phases of the step are functions of their
+-- own with these contracts; 1, 2 and 4 stand before them in the step.
+use mathlib.Core.Bool.{Bool, _||_}
+use mathlib.Core.List.{List}
+use Prim.Native.Nat.{ℕ}
+use lib.Dec.{ltb}
+use lib.ListN.{length}
+use Rattle.base.specs.Choice.{pick}
+use Rattle.session.specs.declared.Filling.{Filling}
+use Rattle.session.specs.declared.Region.{Region}
+use Rattle.session.specs.declared.Phase.{Phase}
+use Rattle.session.specs.declared.Phase.the-variants as P
+use Rattle.session.specs.declared.Session.{Session}
+use Rattle.session.specs.Step.{
+  Outcome,
+  outcome,
+  untouched,
+  readsLimit,
+  phaseLimit,
+  packetOf,
+  responseOf,
+  switchedOf,
+  tableOf,
+  betweenOf,
+  regionOf,
+}
+
+-- 18 for a session as if it were in the phase p
+abbrev pub limitAt : Session → Phase → List ℕ → List ℕ → Bool
+limitAt s p t y = readsLimit s || phaseLimit 8 (s .window) p t y
+
+-- 3, then 18, then x
+abbrev pub guarded : Session → Phase → List ℕ → List ℕ → List ℕ → Outcome → Outcome
+guarded s p t y o x = pick (ltb (length o) 48) (untouched s 3 t y o) (pick (limitAt s p t y) (untouched s 18 t y o) x)
+
+unfoldable pub packetStep : Session → ℕ → List ℕ → List ℕ → List ℕ → List ℕ → List ℕ → Outcome
+packetStep s h d set t y o = guarded s (P.Packet h) t y o (packetOf s h d set t y o)
+
+unfoldable pub responseStep : Session → Filling → List ℕ → List ℕ → List ℕ → List ℕ → Outcome
+responseStep s x d t y o = guarded s (P.Response x) t y o (responseOf s x d t y o)
+
+unfoldable pub switchedStep : Session → ℕ → List ℕ → List ℕ → List ℕ → Outcome
+switchedStep s k t y o = guarded s (P.Switched k) t y o (switchedOf s k t y o)
+
+unfoldable pub tableStep : Session → Filling → List ℕ → List ℕ → List ℕ → List ℕ → Outcome
+tableStep s x d t y o = guarded s (P.Table x) t y o (tableOf s x d t y o)
+
+unfoldable pub betweenStep : Session → ℕ → ℕ → List ℕ → List ℕ → List ℕ → List ℕ → Outcome
+betweenStep s k i names t y o = guarded s (P.Between k i) t y o (outcome (betweenOf 8 s k i names t) t y o)
+
+unfoldable pub regionStep : Session → ℕ → Region → List ℕ → List ℕ → List ℕ → List ℕ → Outcome
+regionStep s k x d t y o = guarded s (P.Region k x) t y o (regionOf 8 s k x d t y o)

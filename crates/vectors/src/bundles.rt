@@ -1,0 +1,50 @@
+// Image sets, name lists and image ranges.
+use crate::show;
+use crate::text;
+use bundle::Checked;
+use bundle::check_images;
+use bundle::check_names;
+use image::ImageId;
+use image::ImageRange;
+use image::image_range;
+
+fn checked(c: Checked) {
+    match c {
+        Checked::Good => show::good(),
+        Checked::Refused(k) => show::refused(k),
+    }
+}
+
+// s BYTES
+pub fn images(line: &[u8]) {
+    let mut set = [0u8; 1024];
+    let n = text::bytes(line, 1, &mut set);
+    checked(check_images(&set[..n]));
+}
+
+// n BYTES
+pub fn names(line: &[u8]) {
+    let mut names = [0u8; 1024];
+    let n = text::bytes(line, 1, &mut names);
+    checked(check_names(&names[..n]));
+}
+
+fn at(start: usize, len: usize) {
+    show::text(b"at ");
+    show::number(start);
+    show::text(b" ");
+    show::number(len);
+}
+
+// i SET ID OFFSET LENGTH
+pub fn range(line: &[u8]) {
+    let mut set = [0u8; 1024];
+    let n = text::bytes(line, 1, &mut set);
+    let id = ImageId(text::long(line, 2));
+    let offset = text::long(line, 3);
+    let len = text::long(line, 4);
+    match image_range(&set[..n], id, offset, len) {
+        ImageRange::At(start, count) => at(start, count),
+        ImageRange::Refused(k) => show::refused(k),
+    }
+}

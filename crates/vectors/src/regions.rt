@@ -1,0 +1,106 @@
+// Texts, table entries and their selection.
+use crate::show;
+use crate::text;
+use entry::RamdumpTable64;
+use entry::entry_at;
+use filename::NameCheck;
+use filename::check_opened;
+use filename::check_opening;
+use filename::stem_len;
+use selection::is_selected;
+use selection::next_selected;
+
+// u BYTES
+pub fn utf8_valid(line: &[u8]) {
+    let mut s = [0u8; 1024];
+    let n = text::bytes(line, 1, &mut s);
+    show::flag(utf8::valid(&s[..n]));
+}
+
+fn front(s: &[u8], k: usize) {
+    if s.len() < k {
+        show::nothing();
+        return;
+    }
+    show::bytes(&s[..k]);
+}
+
+// t NAME: the stem's bytes.
+pub fn stem(line: &[u8]) {
+    let mut name = [0u8; 1024];
+    let n = text::bytes(line, 1, &mut name);
+    let k = stem_len(&name[..n]);
+    front(&name[..n], k);
+}
+
+fn name_check(c: NameCheck) {
+    match c {
+        NameCheck::Good => show::good(),
+        NameCheck::Refused(k) => show::refused(k),
+    }
+}
+
+// o NAME
+pub fn opening(line: &[u8]) {
+    let mut name = [0u8; 1024];
+    let n = text::bytes(line, 1, &mut name);
+    name_check(check_opening(&name[..n]));
+}
+
+// p NAME
+pub fn opened(line: &[u8]) {
+    let mut name = [0u8; 1024];
+    let n = text::bytes(line, 1, &mut name);
+    name_check(check_opened(&name[..n]));
+}
+
+fn texts(e: RamdumpTable64) {
+    let description = e.description;
+    let filename = e.filename;
+    show::text(b" ");
+    show::bytes(&description);
+    show::text(b" ");
+    show::bytes(&filename);
+}
+
+fn entry(e: RamdumpTable64) {
+    show::text(b"entry");
+    show::long(e.save_pref);
+    show::two_longs(e.base, e.len);
+    texts(e);
+}
+
+// e TABLE INDEX
+pub fn decode_entry(line: &[u8]) {
+    let mut table = [0u8; 1024];
+    let n = text::bytes(line, 1, &mut table);
+    let i = text::index(line, 2);
+    let r = entry_at(&table[..n], i);
+    let e = r.entry;
+    if r.there {
+        entry(e);
+        return;
+    }
+    show::text(b"none");
+}
+
+// x TABLE INDEX NAMES
+pub fn selected(line: &[u8]) {
+    let mut table = [0u8; 1024];
+    let mut names = [0u8; 1024];
+    let n = text::bytes(line, 1, &mut table);
+    let i = text::index(line, 2);
+    let m = text::bytes(line, 3, &mut names);
+    show::flag(is_selected(&table[..n], i, &names[..m]));
+}
+
+// y TABLE ENTRIES NAMES FROM
+pub fn next(line: &[u8]) {
+    let mut table = [0u8; 1024];
+    let mut names = [0u8; 1024];
+    let n = text::bytes(line, 1, &mut table);
+    let entries = text::index(line, 2);
+    let m = text::bytes(line, 3, &mut names);
+    let from = text::index(line, 4);
+    show::number(next_selected(&table[..n], entries, &names[..m], from));
+}
