@@ -169,7 +169,7 @@ class Host:
             if offset + length > place[1]:
                 raise Refused(13)
             at = place[0] + offset
-            return 'image', length, '%d %s' % (at, self.images[at:at + length].hex())
+            return 'image', length, ('%d %s' % (at, self.images[at:at + length].hex())).strip()
         if cmd == 4:
             if w[1] != 0:
                 raise Refused(14)

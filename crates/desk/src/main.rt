@@ -4,6 +4,7 @@ use session::Answer;
 use session::Session;
 use verdict::ExecCommand;
 use verdict::QdlBackend;
+ghost use mathlib.Core.Path.{_≡_};
 ghost use Prim.Native.Nat.{_≤_};
 ghost use lib.ListN.{length};
 
@@ -88,6 +89,84 @@ fn least(a: usize, b: usize) -> usize
     if a < b { a } else { b }
 }
 
+// What is left after a step.
+fn moved(f: Feed, taken: usize) -> Feed
+    requires { ⌜ f .from ≤ f .to ⌝ }
+    ensures { λ r. ⌜ (r .from ≤ r .to) × (r .to ≡ f .to) ⌝ }
+{
+    Feed {
+        from: f.from + least(taken, f.to - f.from),
+        to: f.to,
+        over: f.over,
+    }
+}
+
+// A step, and whether the session goes on.
+struct Turned {
+    session: Session,
+    feed: Feed,
+    more: bool,
+}
+
+fn closed(s: Session, f: Feed) -> Turned
+    ensures { λ r. ⌜ (r .feed .from ≡ f .from) × (r .feed .to ≡ f .to) ⌝ }
+{
+    let r = host::closed(s);
+    let a = r.answer;
+    told(0, a);
+    Turned {
+        session: s,
+        feed: f,
+        more: false,
+    }
+}
+
+fn turn(
+    s: Session,
+    f: Feed,
+    delivery: &[u8],
+    table: &mut [u8],
+    reply: &mut [u8],
+    out: &mut [u8],
+) -> Turned
+    requires { ⌜ (f .from ≤ f .to) × (f .to ≤ length (now delivery)) ⌝ }
+    ensures { λ r. ⌜ (r .feed .from ≤ r .feed .to) × (r .feed .to ≡ f .to) ⌝ }
+{
+    let from = f.from;
+    let to = f.to;
+    let none = b"\0\0\0\0\0\0\0\0";
+    let r = host::step(s, &delivery[from..to], none, none, table, reply, out);
+    let next = r.session;
+    let a = r.answer;
+    let feed = moved(f, r.taken);
+    let more = told(r.taken, a);
+    Turned {
+        session: next,
+        feed: feed,
+        more: more,
+    }
+}
+
+// The step, unless the input is over and it would wait.
+fn turn_or_close(
+    s: Session,
+    f: Feed,
+    delivery: &[u8],
+    table: &mut [u8],
+    reply: &mut [u8],
+    out: &mut [u8],
+) -> Turned
+    requires { ⌜ (f .from ≤ f .to) × (f .to ≤ length (now delivery)) ⌝ }
+    ensures { λ r. ⌜ (r .feed .from ≤ r .feed .to) × (r .feed .to ≡ f .to) ⌝ }
+{
+    if f.over {
+        if host::needs_bytes(s) {
+            return closed(s, f);
+        }
+    }
+    turn(s, f, delivery, table, reply, out)
+}
+
 fn run(delivery: &mut [u8], table: &mut [u8], reply: &mut [u8], out: &mut [u8]) {
     let mut s = host::open(
         SaharaMode::WaitingForImage,
@@ -99,33 +178,16 @@ fn run(delivery: &mut [u8], table: &mut [u8], reply: &mut [u8], out: &mut [u8]) 
         to: 0,
         over: false,
     };
-    let none = b"\0\0\0\0\0\0\0\0";
     let mut turns: u64 = 0;
     while turns < 18446744073709551615 {
         turns += 1;
-        f = refill(delivery, f);
-        if f.over {
-            if host::needs_bytes(s) {
-                let r = host::closed(s);
-                let a = r.answer;
-                told(0, a);
-                return;
-            }
-        }
-        let from = f.from;
-        let to = f.to;
-        let r = host::step(s, &delivery[from..to], none, none, table, reply, out);
-        let a = r.answer;
-        let taken = r.taken;
-        if !told(taken, a) {
+        let fed = refill(delivery, f);
+        let t = turn_or_close(s, fed, delivery, table, reply, out);
+        if !t.more {
             return;
         }
-        f = Feed {
-            from: from + least(taken, to - from),
-            to: to,
-            over: f.over,
-        };
-        s = r.session;
+        f = t.feed;
+        s = t.session;
     }
 }
 

@@ -39,24 +39,29 @@ or-second : (a b c : Bool) → a ≡ false → b ≡ c → (a || b) ≡ c
 or-second true b c e h = absurd (true≢false e)
 or-second false b c e h = h
 
--- 3, 18 and the phase, by what the two tests of a limit told: m of the memory reads, n of the phase's counts
+-- 3, then 18, then the phase; m is what the test of the memory reads told, n that of the phase's counts
 module _ (s : Session) (p : Phase) (t y o : List ℕ) (x : Outcome) where
+  -- an out buffer below 48 bytes gives 3
   pub guard-short : {r : Stepped} → r ≡ gives s 0 (A.Refused 3) → length o < 48 → outcome r t y o ≡ guarded s p t y o x
   guard-short e h = ap (λ (q : Stepped). outcome q t y o) e ∙ sym (pick-true (ltb (length o) 48) _ _ (lt-ltb (length o) 48 h))
 
+  -- a limit that is passed gives 18
   limited : {r : Stepped} → r ≡ gives s 0 (A.Refused 18) → 48 ≤ length o → limitAt s p t y ≡ true → outcome r t y o ≡ guarded s p t y o x
   limited e h l =
       ap (λ (q : Stepped). outcome q t y o) e
       ∙ sym (pick-false (ltb (length o) 48) _ _ (le-ltb (length o) 48 h) ∙ pick-true (limitAt s p t y) _ _ l)
 
+  -- so do too many memory reads
   pub guard-reads : {r : Stepped} {m : Bool} → r ≡ gives s 0 (A.Refused 18) → 48 ≤ length o → m ≡ readsLimit s → m ≡ true
       → outcome r t y o ≡ guarded s p t y o x
   guard-reads e h m v = limited e h (or-first (readsLimit s) (phaseLimit 8 (s .window) p t y) (sym m ∙ v))
 
+  -- and a count of the phase
   pub guard-counts : {r : Stepped} {m n : Bool} → r ≡ gives s 0 (A.Refused 18) → 48 ≤ length o → m ≡ readsLimit s → m ≡ false
       → n ≡ phaseLimit 8 (s .window) p t y → n ≡ true → outcome r t y o ≡ guarded s p t y o x
   guard-counts e h m v n w = limited e h (or-second (readsLimit s) (phaseLimit 8 (s .window) p t y) true (sym m ∙ v) (sym n ∙ w))
 
+  -- with none of these it is the phase
   pub guard-passed : {z : Outcome} {m n : Bool} → z ≡ x → 48 ≤ length o → m ≡ readsLimit s → m ≡ false
       → n ≡ phaseLimit 8 (s .window) p t y → n ≡ false → z ≡ guarded s p t y o x
   guard-passed e h m v n w =
@@ -80,10 +85,12 @@ or-right true true e = e
 or-right true false e = refl
 or-right false b e = e
 
+-- the first test fails, so the second is what fails
 and-left : (a b : Bool) → (not a && b) ≡ false → a ≡ false → b ≡ false
 and-left true b e h = absurd (true≢false h)
 and-left false b e h = e
 
+-- a region that is not refused with 18 is within its limits
 pub region-within : (f k : ℕ) (x : Region) (t : List ℕ) → regionLimit f k x t ≡ false → Within f k x t
 region-within f k x t e =
     let sum : ℕ = x .done + x .outstanding in

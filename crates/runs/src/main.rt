@@ -10,6 +10,7 @@ use session::Phase;
 use session::Session;
 use verdict::ExecCommand;
 use verdict::QdlBackend;
+ghost use mathlib.Core.Path.{_≡_};
 ghost use Prim.Native.Nat.{_+_, _≤_, _<_};
 ghost use lib.ListN.{length};
 ghost use Rattle.runs.specs.Case.{Placed};
@@ -102,13 +103,14 @@ fn backend_for(n: u32) -> QdlBackend {
     QdlBackend::Usb
 }
 
-fn digit(n: u8) -> u8
-    requires { ⌜ n < 16 ⌝ }
-{
+fn digit(n: u8) -> u8 {
     if n < 10 {
         return b'0' + n;
     }
-    b'a' + (n - 10)
+    if n < 16 {
+        return b'a' + (n - 10);
+    }
+    b'?'
 }
 
 fn print_hex(s: &[u8]) {
@@ -236,63 +238,118 @@ fn refill(f: Feed, size: usize, end: usize) -> Feed
     }
 }
 
-// One conversation.
-fn run(input: &[u8], c: Case, table: &mut [u8], reply: &mut [u8], out: &mut [u8])
-    requires { ⌜ Placed 0 (c .set) (c .names) (c .feed) (c .end) (length (now input)) ⌝ }
+// What is left after a step.
+fn moved(f: Feed, taken: usize) -> Feed
+    requires { ⌜ f .from ≤ f .to ⌝ }
+    ensures { λ r. ⌜ (r .from ≤ r .to) × (r .to ≡ f .to) ⌝ }
 {
-    let set = c.set;
-    let names = c.names;
-    let feed = c.feed;
-    let end = c.end;
-    let mut s = host::open(
-        mode_for(c.mode),
-        command_for(c.command),
-        backend_for(c.backend),
-    );
+    Feed {
+        from: f.from + least(taken, f.to - f.from),
+        to: f.to,
+        over: f.over,
+    }
+}
+
+// A step, and whether the session goes on.
+struct Turned {
+    session: Session,
+    feed: Feed,
+    more: bool,
+}
+
+fn closed(s: Session, f: Feed) -> Turned
+    ensures { λ r. ⌜ (r .feed .from ≡ f .from) × (r .feed .to ≡ f .to) ⌝ }
+{
+    let r = host::closed(s);
+    let a = r.answer;
+    told(0, a, b"", b"");
+    io::write_all(1, b"\n");
+    Turned {
+        session: s,
+        feed: f,
+        more: false,
+    }
+}
+
+fn turn(
+    s: Session,
+    f: Feed,
+    delivery: &[u8],
+    set: &[u8],
+    names: &[u8],
+    table: &mut [u8],
+    reply: &mut [u8],
+    out: &mut [u8],
+) -> Turned
+    requires { ⌜ f .from ≤ f .to ⌝ }
+    ensures { λ r. ⌜ (r .feed .from ≤ r .feed .to) × (r .feed .to ≡ f .to) ⌝ }
+{
+    let r = host::step(s, delivery, set, names, table, reply, out);
+    let next = r.session;
+    let a = r.answer;
+    let p = next.phase;
+    let feed = moved(f, r.taken);
+    let more = told(r.taken, a, set, out);
+    io::write_all(1, b"\n");
+    replied(a, p, reply);
+    Turned {
+        session: next,
+        feed: feed,
+        more: more,
+    }
+}
+
+// The step, unless the device's bytes are over and it would wait.
+fn turn_or_close(
+    s: Session,
+    f: Feed,
+    delivery: &[u8],
+    set: &[u8],
+    names: &[u8],
+    table: &mut [u8],
+    reply: &mut [u8],
+    out: &mut [u8],
+) -> Turned
+    requires { ⌜ f .from ≤ f .to ⌝ }
+    ensures { λ r. ⌜ (r .feed .from ≤ r .feed .to) × (r .feed .to ≡ f .to) ⌝ }
+{
+    if f.over {
+        if host::needs_bytes(s) {
+            return closed(s, f);
+        }
+    }
+    turn(s, f, delivery, set, names, table, reply, out)
+}
+
+// One conversation: deliveries of at most `size` of the device's bytes.
+fn run(
+    first: Session,
+    size: usize,
+    feed: &[u8],
+    set: &[u8],
+    names: &[u8],
+    table: &mut [u8],
+    reply: &mut [u8],
+    out: &mut [u8],
+) {
+    let mut s = first;
     let mut f = Feed {
-        from: feed,
-        to: feed,
+        from: 0,
+        to: 0,
         over: false,
     };
     let mut turns: u64 = 0;
     while turns < 1000000000 {
         turns += 1;
-        f = refill(f, c.size, end);
-        if f.over {
-            if host::needs_bytes(s) {
-                let r = host::closed(s);
-                let a = r.answer;
-                told(0, a, b"", b"");
-                io::write_all(1, b"\n");
-                return;
-            }
-        }
-        let from = f.from;
-        let to = f.to;
-        let r = host::step(
-            s,
-            &input[from..to],
-            &input[set..names],
-            &input[names..feed],
-            table,
-            reply,
-            out,
-        );
-        let a = r.answer;
-        let p = r.session.phase;
-        let taken = r.taken;
-        let more = told(taken, a, &input[set..names], out);
-        io::write_all(1, b"\n");
-        replied(a, p, reply);
-        if !more {
+        let fed = refill(f, size, feed.len());
+        let from = fed.from;
+        let to = fed.to;
+        let t = turn_or_close(s, fed, &feed[from..to], set, names, table, reply, out);
+        if !t.more {
             return;
         }
-        f = Feed {
-            from: from + least(taken, to - from),
-            to: to,
-            over: f.over,
-        };
-        s = r.session;
+        f = t.feed;
+        s = t.session;
     }
 }
 
@@ -303,7 +360,25 @@ fn replay(input: &[u8], c: Case, table: &mut [u8], reply: &mut [u8], out: &mut [
     let t = least(c.table, table.len());
     let y = least(c.reply, reply.len());
     let o = least(c.out, out.len());
-    run(input, c, &mut table[..t], &mut reply[..y], &mut out[..o]);
+    let set = c.set;
+    let names = c.names;
+    let feed = c.feed;
+    let end = c.end;
+    let s = host::open(
+        mode_for(c.mode),
+        command_for(c.command),
+        backend_for(c.backend),
+    );
+    run(
+        s,
+        c.size,
+        &input[feed..end],
+        &input[set..names],
+        &input[names..feed],
+        &mut table[..t],
+        &mut reply[..y],
+        &mut out[..o],
+    );
 }
 
 fn all(input: &[u8], table: &mut [u8], reply: &mut [u8], out: &mut [u8]) {
