@@ -15,50 +15,32 @@ struct Feed {
     over: bool,
 }
 
-fn line(taken: usize, word: &[u8], number: u64) {
+// A line; true.
+fn line(taken: usize, word: &[u8], number: u64) -> bool {
     io::print_decimal(1, taken as u64);
     io::write_all(1, word);
     io::print_decimal(1, number);
     io::write_all(1, b"\n");
+    true
 }
 
 // Prints a step; true where the session goes on.
 fn told(taken: usize, a: Answer) -> bool {
+    let n = answers::first_value(a);
     match a {
-        Answer::Go => {
-            line(taken, b" go ", 0);
-            true
-        }
-        Answer::Send(k) => {
-            line(taken, b" send ", k as u64);
-            true
-        }
-        Answer::Image(_, k) => {
-            line(taken, b" image ", k as u64);
-            true
-        }
-        Answer::Open(i) => {
-            line(taken, b" open ", i as u64);
-            true
-        }
-        Answer::Bytes(k) => {
-            line(taken, b" bytes ", k as u64);
-            true
-        }
-        Answer::EmptyRead => {
-            line(taken, b" empty read ", 0);
-            true
-        }
-        Answer::Close(i) => {
-            line(taken, b" close ", i as u64);
-            true
-        }
-        Answer::Finished(how, _) => {
-            line(taken, b" finished ", how as u64);
+        Answer::Go => line(taken, b" go ", n),
+        Answer::Send(_) => line(taken, b" send ", n),
+        Answer::Image(_, _) => line(taken, b" image ", n),
+        Answer::Open(_) => line(taken, b" open ", n),
+        Answer::Bytes(_) => line(taken, b" bytes ", n),
+        Answer::EmptyRead => line(taken, b" empty read ", n),
+        Answer::Close(_) => line(taken, b" close ", n),
+        Answer::Finished(_, _) => {
+            line(taken, b" finished ", n);
             false
         }
-        Answer::Refused(why) => {
-            line(taken, b" refused ", why as u64);
+        Answer::Refused(_) => {
+            line(taken, b" refused ", n);
             false
         }
     }

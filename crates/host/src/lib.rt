@@ -58,7 +58,8 @@ pub fn step(
     reply: &mut [u8],
     out: &mut [u8],
 ) -> Stepped
-    ensures { λ r. ⌜ outcome r (now (table .exit)) (now (reply .exit)) (now (out .exit)) ≡ stepOf s (now (delivery .entry)) (now (set .entry)) (now (names .entry)) (now (table .entry)) (now (reply .entry)) (now (out .entry)) ⌝ }
+    ensures { λ r. ⌜ outcome r (now (table .exit)) (now (reply .exit)) (now (out .exit))
+        ≡ stepOf s (now (delivery .entry)) (now (set .entry)) (now (names .entry)) (now (table .entry)) (now (reply .entry)) (now (out .entry)) ⌝ }
 {
     let Checked::Good = check_images(set) else {
         return refused(s, 1);

@@ -210,7 +210,7 @@ fn packet(
     body(s, held, delivery, length_in(w), set, table, reply, out)
 }
 
-// A step of the packet phase, h bytes of a packet being held: 3, then 18, then the packet's bytes.
+// A step of the packet phase, so many bytes of a packet being held: 3, then 18, then the packet's bytes.
 pub fn packet_step(
     s: Session,
     held: usize,

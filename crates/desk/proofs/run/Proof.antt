@@ -35,16 +35,28 @@ turn-or-close-requires : tie.Need-turn-or-close-requires Inv-loop μ-loop
 turn-or-close-requires c κs = search needs
 
 same-length : tie.Need-same-length Inv-loop μ-loop
-same-length c = omega (arith, c .before .before .before .before .before .before .before .before .turn-or-close .kept, c .before .before .before .before .before .before .before .before .before .before .before .before .before .before .before .refill .kept, c .before .before .before .before .before .before .before .before .before .before .before .before .before .before .before .before .before .before .loop .inv)
+same-length c =
+    let t = c .before .before .before .before .before .before .before .before in
+    let r = t .before .before .before .before .before .before .before in
+    omega (arith, t .turn-or-close .kept, r .refill .kept, r .before .before .before .loop .inv)
 
 same-length-2 : tie.Need-same-length-2 Inv-loop μ-loop
-same-length-2 c = omega (arith, c .before .before .before .before .before .before .before .before .turn-or-close .kept, c .before .before .before .before .before .before .before .before .before .before .before .before .before .before .before .refill .kept, c .before .before .before .before .before .before .before .before .before .before .before .before .before .before .before .before .before .before .loop .inv)
+same-length-2 c =
+    let t = c .before .before .before .before .before .before .before .before in
+    let r = t .before .before .before .before .before .before .before in
+    omega (arith, t .turn-or-close .kept, r .refill .kept, r .before .before .before .loop .inv)
 
 same-length-3 : tie.Need-same-length-3 Inv-loop μ-loop
-same-length-3 c = omega (arith, c .before .before .before .before .before .before .before .before .turn-or-close .kept, c .before .before .before .before .before .before .before .before .before .before .before .before .before .before .before .refill .kept, c .before .before .before .before .before .before .before .before .before .before .before .before .before .before .before .before .before .before .loop .inv)
+same-length-3 c =
+    let t = c .before .before .before .before .before .before .before .before in
+    let r = t .before .before .before .before .before .before .before in
+    omega (arith, t .turn-or-close .kept, r .refill .kept, r .before .before .before .loop .inv)
 
 same-length-4 : tie.Need-same-length-4 Inv-loop μ-loop
-same-length-4 c = omega (arith, c .before .before .before .before .before .before .before .before .turn-or-close .kept, c .before .before .before .before .before .before .before .before .before .before .before .before .before .before .before .refill .kept, c .before .before .before .before .before .before .before .before .before .before .before .before .before .before .before .before .before .before .loop .inv)
+same-length-4 c =
+    let t = c .before .before .before .before .before .before .before .before in
+    let r = t .before .before .before .before .before .before .before in
+    omega (arith, t .turn-or-close .kept, r .refill .kept, r .before .before .before .loop .inv)
 
 returns : tie.Need-returns Inv-loop μ-loop
 returns c = search needs
@@ -53,7 +65,11 @@ loop-less : tie.Need-loop-less Inv-loop μ-loop
 loop-less c = search needs
 
 loop-again : tie.Need-loop-again Inv-loop μ-loop
-loop-again c = omega (arith, c .before .before .before .before .before .before .before .before .before .before .turn-or-close .kept, c .before .before .before .before .before .before .before .before .before .before .turn-or-close .ensures, c .before .before .before .before .before .before .before .before .before .before .before .before .before .before .before .before .before .refill .kept, c .before .before .before .before .before .before .before .before .before .before .before .before .before .before .before .before .before .refill .ensures, c .before .before .before .before .before .before .before .before .before .before .before .before .before .before .before .before .before .before .before .before .loop .inv)
+loop-again c =
+    let t = c .before .before .before .before .before .before .before .before .before .before in
+    let r = t .before .before .before .before .before .before .before in
+    let l = r .before .before .before .loop in
+    omega (arith, t .turn-or-close .kept, t .turn-or-close .ensures, r .refill .kept, r .refill .ensures, l .inv)
 
 same-length-5 : tie.Need-same-length-5 Inv-loop μ-loop
 same-length-5 c = search needs

@@ -18,14 +18,16 @@ use borrow.Author.Needs.{needs}
 use Rattle.host.proofs.step.Statement.{statement}
 use Rattle.host.proofs.step.Tie as tie
 
--- behind the two checks both bundles are well formed, so the step is its phase
-by-phase : (c : tie.After-enum-told3)
-    → stepOf (c .before .before .before .before .before .before .before .before .before .before .before .before .args .s) (now (c .before .before .before .before .before .before .before .before .before .before .before .before .args .delivery)) (now (c .before .before .before .before .before .before .before .before .before .before .before .before .args .set)) (now (c .before .before .before .before .before .before .before .before .before .before .before .before .args .names))
-    (now (c .before .before .before .before .before .before .before .before .before .before .before .before .args .table)) (now (c .before .before .before .before .before .before .before .before .before .before .before .before .args .reply)) (now (c .before .before .before .before .before .before .before .before .before .before .before .before .args .out))
-    ≡ phaseStep (c .before .before .before .before .before .before .before .before .before .before .before .before .args .s) (now (c .before .before .before .before .before .before .before .before .before .before .before .before .args .delivery)) (now (c .before .before .before .before .before .before .before .before .before .before .before .before .args .set)) (now (c .before .before .before .before .before .before .before .before .before .before .before .before .args .names))
-    (now (c .before .before .before .before .before .before .before .before .before .before .before .before .args .table)) (now (c .before .before .before .before .before .before .before .before .before .before .before .before .args .reply)) (now (c .before .before .before .before .before .before .before .before .before .before .before .before .args .out)) (c .before .before .before .before .before .before .before .before .before .before .before .before .args .s .phase)
+-- where the function begins, from behind the two checks
+abbrev begun : tie.After-enum-told3 → tie.Start
+begun c = c .before .before .before .before .before .before .before .before .before .before .before .before
+
+-- there both bundles are well formed, so the step is its phase
+by-phase : (c : tie.After-enum-told3) → (let a = begun c .args in
+    stepOf (a .s) (now (a .delivery)) (now (a .set)) (now (a .names)) (now (a .table)) (now (a .reply)) (now (a .out))
+    ≡ phaseStep (a .s) (now (a .delivery)) (now (a .set)) (now (a .names)) (now (a .table)) (now (a .reply)) (now (a .out)) (a .s .phase))
 by-phase c =
-    let a = c .before .before .before .before .before .before .before .before .before .before .before .before .args in
+    let a = begun c .args in
     let e : imagesChecked (now (a .set)) ≡ C.Good = cc in
     let f : namesChecked (now (a .names)) ≡ C.Good = cc in
     step-phase (a .s) (now (a .delivery)) (now (a .set)) (now (a .names)) (now (a .table)) (now (a .reply)) (now (a .out))
@@ -118,11 +120,12 @@ refused-requires-3 c κs = search needs
 
 returns-3 : tie.Need-returns-3
 returns-3 c =
-    let a = c .before .before .before .before .before .before .before .before .before .before .before .before .before .before .before .before .before .args in
+    let g = c .before .before .before .before .before in
+    let a = begun g .args in
     let l : length (now (a .out)) < 48 = omega arith in
     let e : a .s .phase ≡ P.Ended (c .before .before .before .p7 .given .0 .0) = cc in
     ap (λ (r : Stepped). outcome r (now (a .table)) (now (a .reply)) (now (a .out))) (c .refused3 .ensures)
-    ∙ sym (by-phase (c .before .before .before .before .before) ∙ ap (phaseStep (a .s) (now (a .delivery)) (now (a .set)) (now (a .names)) (now (a .table)) (now (a .reply)) (now (a .out))) e ∙ simp (lt-ltb _ _ l))
+    ∙ sym (by-phase g ∙ ap (phaseStep (a .s) (now (a .delivery)) (now (a .set)) (now (a .names)) (now (a .table)) (now (a .reply)) (now (a .out))) e ∙ simp (lt-ltb _ _ l))
 
 refused-requires-4 : tie.Need-refused-requires-4
 refused-requires-4 c κs = search needs
@@ -138,9 +141,10 @@ same-length-3 c = search needs
 
 returns-4 : tie.Need-returns-4
 returns-4 c =
-    let a = c .before .before .before .before .before .before .before .before .before .before .before .before .before .before .before .before .before .before .before .before .before .args in
+    let g = c .before .before .before .before .before .before .before .before .before in
+    let a = begun g .args in
     let e : a .s .phase ≡ P.Packet (c .before .before .before .before .before .before .before .p .given .0 .0) = cc in
-    c .before .before .packet-step .ensures ∙ sym (by-phase (c .before .before .before .before .before .before .before .before .before) ∙ ap (phaseStep (a .s) (now (a .delivery)) (now (a .set)) (now (a .names)) (now (a .table)) (now (a .reply)) (now (a .out))) e)
+    c .before .before .packet-step .ensures ∙ sym (by-phase g ∙ ap (phaseStep (a .s) (now (a .delivery)) (now (a .set)) (now (a .names)) (now (a .table)) (now (a .reply)) (now (a .out))) e)
 
 same-length-4 : tie.Need-same-length-4
 same-length-4 c = search needs
@@ -153,9 +157,10 @@ same-length-6 c = search needs
 
 returns-5 : tie.Need-returns-5
 returns-5 c =
-    let a = c .before .before .before .before .before .before .before .before .before .before .before .before .before .before .before .before .before .before .before .before .before .before .before .args in
+    let g = c .before .before .before .before .before .before .before .before .before .before .before in
+    let a = begun g .args in
     let e : a .s .phase ≡ P.Response (c .before .before .before .before .before .before .before .before .before .p2 .given .0 .0) = cc in
-    c .before .before .before .before .response-step .ensures ∙ sym (by-phase (c .before .before .before .before .before .before .before .before .before .before .before) ∙ ap (phaseStep (a .s) (now (a .delivery)) (now (a .set)) (now (a .names)) (now (a .table)) (now (a .reply)) (now (a .out))) e)
+    c .before .before .before .before .response-step .ensures ∙ sym (by-phase g ∙ ap (phaseStep (a .s) (now (a .delivery)) (now (a .set)) (now (a .names)) (now (a .table)) (now (a .reply)) (now (a .out))) e)
 
 same-length-7 : tie.Need-same-length-7
 same-length-7 c = search needs
@@ -168,9 +173,10 @@ same-length-9 c = search needs
 
 returns-6 : tie.Need-returns-6
 returns-6 c =
-    let a = c .before .before .before .before .before .before .before .before .before .before .before .before .before .before .before .before .before .before .before .args in
+    let g = c .before .before .before .before .before .before .before in
+    let a = begun g .args in
     let e : a .s .phase ≡ P.Switched (c .before .before .before .before .before .p3 .given .0 .0) = cc in
-    c .switched-step .ensures ∙ sym (by-phase (c .before .before .before .before .before .before .before) ∙ ap (phaseStep (a .s) (now (a .delivery)) (now (a .set)) (now (a .names)) (now (a .table)) (now (a .reply)) (now (a .out))) e)
+    c .switched-step .ensures ∙ sym (by-phase g ∙ ap (phaseStep (a .s) (now (a .delivery)) (now (a .set)) (now (a .names)) (now (a .table)) (now (a .reply)) (now (a .out))) e)
 
 same-length-10 : tie.Need-same-length-10
 same-length-10 c = search needs
@@ -183,9 +189,10 @@ same-length-12 c = search needs
 
 returns-7 : tie.Need-returns-7
 returns-7 c =
-    let a = c .before .before .before .before .before .before .before .before .before .before .before .before .before .before .before .before .before .before .before .before .before .args in
+    let g = c .before .before .before .before .before .before .before .before .before in
+    let a = begun g .args in
     let e : a .s .phase ≡ P.Table (c .before .before .before .before .before .before .before .p4 .given .0 .0) = cc in
-    c .before .before .table-step .ensures ∙ sym (by-phase (c .before .before .before .before .before .before .before .before .before) ∙ ap (phaseStep (a .s) (now (a .delivery)) (now (a .set)) (now (a .names)) (now (a .table)) (now (a .reply)) (now (a .out))) e)
+    c .before .before .table-step .ensures ∙ sym (by-phase g ∙ ap (phaseStep (a .s) (now (a .delivery)) (now (a .set)) (now (a .names)) (now (a .table)) (now (a .reply)) (now (a .out))) e)
 
 same-length-13 : tie.Need-same-length-13
 same-length-13 c = search needs
@@ -198,9 +205,10 @@ same-length-15 c = search needs
 
 returns-8 : tie.Need-returns-8
 returns-8 c =
-    let a = c .before .before .before .before .before .before .before .before .before .before .before .before .before .before .before .before .before .before .before .args in
+    let g = c .before .before .before .before .before .before .before in
+    let a = begun g .args in
     let e : a .s .phase ≡ P.Between (c .before .before .before .before .before .p5 .given .0 .0) (c .before .before .before .before .before .p5 .given .0 .1 .0) = cc in
-    c .between-step .ensures ∙ sym (by-phase (c .before .before .before .before .before .before .before) ∙ ap (phaseStep (a .s) (now (a .delivery)) (now (a .set)) (now (a .names)) (now (a .table)) (now (a .reply)) (now (a .out))) e)
+    c .between-step .ensures ∙ sym (by-phase g ∙ ap (phaseStep (a .s) (now (a .delivery)) (now (a .set)) (now (a .names)) (now (a .table)) (now (a .reply)) (now (a .out))) e)
 
 same-length-16 : tie.Need-same-length-16
 same-length-16 c = search needs
@@ -213,17 +221,19 @@ same-length-18 c = search needs
 
 returns-9 : tie.Need-returns-9
 returns-9 c =
-    let a = c .before .before .before .before .before .before .before .before .before .before .before .before .before .before .before .before .before .before .before .before .before .args in
+    let g = c .before .before .before .before .before .before .before .before .before in
+    let a = begun g .args in
     let e : a .s .phase ≡ P.Region (c .before .before .before .before .before .before .before .p6 .given .0 .0) (c .before .before .before .before .before .before .before .p6 .given .0 .1 .0) = cc in
-    c .before .before .region-step .ensures ∙ sym (by-phase (c .before .before .before .before .before .before .before .before .before) ∙ ap (phaseStep (a .s) (now (a .delivery)) (now (a .set)) (now (a .names)) (now (a .table)) (now (a .reply)) (now (a .out))) e)
+    c .before .before .region-step .ensures ∙ sym (by-phase g ∙ ap (phaseStep (a .s) (now (a .delivery)) (now (a .set)) (now (a .names)) (now (a .table)) (now (a .reply)) (now (a .out))) e)
 
 returns-10 : tie.Need-returns-10
 returns-10 c =
-    let a = c .before .before .before .before .before .before .before .before .before .before .before .before .before .before .before .before .before .args in
+    let g = c .before .before .before .before .before in
+    let a = begun g .args in
     let l : 48 ≤ length (now (a .out)) = omega arith in
     let e : a .s .phase ≡ P.Ended (c .before .before .before .p7 .given .0 .0) = cc in
     ap (λ (r : Stepped). outcome r (now (a .table)) (now (a .reply)) (now (a .out))) (c .refused4 .ensures)
-    ∙ sym (by-phase (c .before .before .before .before .before) ∙ ap (phaseStep (a .s) (now (a .delivery)) (now (a .set)) (now (a .names)) (now (a .table)) (now (a .reply)) (now (a .out))) e ∙ simp (le-ltb _ _ l))
+    ∙ sym (by-phase g ∙ ap (phaseStep (a .s) (now (a .delivery)) (now (a .set)) (now (a .names)) (now (a .table)) (now (a .reply)) (now (a .out))) e ∙ simp (le-ltb _ _ l))
 
 pub step-spec : {M : Type 1} → statement M
 step-spec =

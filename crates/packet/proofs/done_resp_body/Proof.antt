@@ -25,8 +25,8 @@ returns-2 : tie.Need-returns-2
 returns-2 c =
     let p : List ℕ = now (c .before .before .before .args .p) in
     let l : 12 ≤ length p = omega arith in
-    let v0 : c .word .result .value ≡ le 4 (drop 8 p) =
-    moved 4 (c .word .result .value) 8 8 p (c .word .ensures .0) (omega arith) in
+    let x0 = c .word in
+    let v0 : x0 .result .value ≡ le 4 (drop 8 p) = moved 4 (x0 .result .value) 8 8 p (x0 .ensures .0) (omega arith) in
     cc (whole-body K.DoneResp p l)
 
 pub done-resp-body-spec : {M : Type 1} → statement M

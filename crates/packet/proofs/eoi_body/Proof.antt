@@ -28,10 +28,10 @@ returns-2 : tie.Need-returns-2
 returns-2 c =
     let p : List ℕ = now (c .before .before .before .before .args .p) in
     let l : 16 ≤ length p = omega arith in
-    let v0 : c .before .word .result .value ≡ le 4 (drop 8 p) =
-    moved 4 (c .before .word .result .value) 8 8 p (c .before .word .ensures .0) (omega arith) in
-    let v1 : c .word2 .result .value ≡ le 4 (drop 12 p) =
-    moved 4 (c .word2 .result .value) (c .before .word .result .next .at) 12 p (c .word2 .ensures .0) (omega arith) in
+    let x0 = c .before .word in
+    let x1 = c .word2 in
+    let v0 : x0 .result .value ≡ le 4 (drop 8 p) = moved 4 (x0 .result .value) 8 8 p (x0 .ensures .0) (omega arith) in
+    let v1 : x1 .result .value ≡ le 4 (drop 12 p) = moved 4 (x1 .result .value) (x0 .result .next .at) 12 p (x1 .ensures .0) (omega arith) in
     cc (whole-body K.EndOfImage p l)
 
 pub eoi-body-spec : {M : Type 1} → statement M

@@ -39,8 +39,8 @@ unfolding kindOf
 returns-2 c =
     let p : List ℕ = now (c .before .before .before .before .before .before .before .args .p) in
     let l : 12 ≤ length p = omega arith in
-    let v0 : c .before .before .before .before .word .result .value ≡ le 4 (drop 8 p) =
-    moved 4 (c .before .before .before .before .word .result .value) 8 8 p (c .before .before .before .before .word .ensures .0) (omega arith) in
+    let x0 = c .before .before .before .before .word in
+    let v0 : x0 .result .value ≡ le 4 (drop 8 p) = moved 4 (x0 .result .value) 8 8 p (x0 .ensures .0) (omega arith) in
     let e : commandOf (le 4 (drop 8 p)) ≡ CO.Is (c .before .c .given .0 .0) = ap commandOf (sym v0) ∙ cc in
     simp (le-ltb _ _ l, e) cc
 
@@ -49,8 +49,8 @@ unfolding kindOf
 returns-3 c =
     let p : List ℕ = now (c .before .before .before .before .before .before .args .p) in
     let l : 12 ≤ length p = omega arith in
-    let v0 : c .before .before .before .word .result .value ≡ le 4 (drop 8 p) =
-    moved 4 (c .before .before .before .word .result .value) 8 8 p (c .before .before .before .word .ensures .0) (omega arith) in
+    let x0 = c .before .before .before .word in
+    let v0 : x0 .result .value ≡ le 4 (drop 8 p) = moved 4 (x0 .result .value) 8 8 p (x0 .ensures .0) (omega arith) in
     let e : commandOf (le 4 (drop 8 p)) ≡ CO.Bad = ap commandOf (sym v0) ∙ cc in
     simp (le-ltb _ _ l, e)
 

@@ -50,14 +50,14 @@ unfolding helloIn
 returns-2 c =
     let p : List ℕ = now (c .before .before .before .before .before .before .before .before .before .before .before .args .p) in
     let l : 48 ≤ length p = omega arith in
-    let v0 : c .before .before .before .before .before .before .before .before .word .result .value ≡ le 4 (drop 8 p) =
-    moved 4 (c .before .before .before .before .before .before .before .before .word .result .value) 8 8 p (c .before .before .before .before .before .before .before .before .word .ensures .0) (omega arith) in
-    let v1 : c .before .before .before .before .before .before .before .word2 .result .value ≡ le 4 (drop 12 p) =
-    moved 4 (c .before .before .before .before .before .before .before .word2 .result .value) (c .before .before .before .before .before .before .before .before .word .result .next .at) 12 p (c .before .before .before .before .before .before .before .word2 .ensures .0) (omega arith) in
-    let v2 : c .before .before .before .before .before .before .word3 .result .value ≡ le 4 (drop 16 p) =
-    moved 4 (c .before .before .before .before .before .before .word3 .result .value) (c .before .before .before .before .before .before .before .word2 .result .next .at) 16 p (c .before .before .before .before .before .before .word3 .ensures .0) (omega arith) in
-    let v3 : c .before .before .before .before .before .word4 .result .value ≡ le 4 (drop 20 p) =
-    moved 4 (c .before .before .before .before .before .word4 .result .value) (c .before .before .before .before .before .before .word3 .result .next .at) 20 p (c .before .before .before .before .before .word4 .ensures .0) (omega arith) in
+    let x0 = c .before .before .before .before .before .before .before .before .word in
+    let x1 = c .before .before .before .before .before .before .before .word2 in
+    let x2 = c .before .before .before .before .before .before .word3 in
+    let x3 = c .before .before .before .before .before .word4 in
+    let v0 : x0 .result .value ≡ le 4 (drop 8 p) = moved 4 (x0 .result .value) 8 8 p (x0 .ensures .0) (omega arith) in
+    let v1 : x1 .result .value ≡ le 4 (drop 12 p) = moved 4 (x1 .result .value) (x0 .result .next .at) 12 p (x1 .ensures .0) (omega arith) in
+    let v2 : x2 .result .value ≡ le 4 (drop 16 p) = moved 4 (x2 .result .value) (x1 .result .next .at) 16 p (x2 .ensures .0) (omega arith) in
+    let v3 : x3 .result .value ≡ le 4 (drop 20 p) = moved 4 (x3 .result .value) (x2 .result .next .at) 20 p (x3 .ensures .0) (omega arith) in
     let e : modeOf (le 4 (drop 20 p)) ≡ MO.Is (c .before .before .m .given .0 .0) = ap modeOf (sym v3) ∙ cc in
     simp (le-ltb _ _ l, e) cc
 
@@ -66,14 +66,14 @@ unfolding helloIn
 returns-3 c =
     let p : List ℕ = now (c .before .before .before .before .before .before .before .before .before .args .p) in
     let l : 48 ≤ length p = omega arith in
-    let v0 : c .before .before .before .before .before .before .word .result .value ≡ le 4 (drop 8 p) =
-    moved 4 (c .before .before .before .before .before .before .word .result .value) 8 8 p (c .before .before .before .before .before .before .word .ensures .0) (omega arith) in
-    let v1 : c .before .before .before .before .before .word2 .result .value ≡ le 4 (drop 12 p) =
-    moved 4 (c .before .before .before .before .before .word2 .result .value) (c .before .before .before .before .before .before .word .result .next .at) 12 p (c .before .before .before .before .before .word2 .ensures .0) (omega arith) in
-    let v2 : c .before .before .before .before .word3 .result .value ≡ le 4 (drop 16 p) =
-    moved 4 (c .before .before .before .before .word3 .result .value) (c .before .before .before .before .before .word2 .result .next .at) 16 p (c .before .before .before .before .word3 .ensures .0) (omega arith) in
-    let v3 : c .before .before .before .word4 .result .value ≡ le 4 (drop 20 p) =
-    moved 4 (c .before .before .before .word4 .result .value) (c .before .before .before .before .word3 .result .next .at) 20 p (c .before .before .before .word4 .ensures .0) (omega arith) in
+    let x0 = c .before .before .before .before .before .before .word in
+    let x1 = c .before .before .before .before .before .word2 in
+    let x2 = c .before .before .before .before .word3 in
+    let x3 = c .before .before .before .word4 in
+    let v0 : x0 .result .value ≡ le 4 (drop 8 p) = moved 4 (x0 .result .value) 8 8 p (x0 .ensures .0) (omega arith) in
+    let v1 : x1 .result .value ≡ le 4 (drop 12 p) = moved 4 (x1 .result .value) (x0 .result .next .at) 12 p (x1 .ensures .0) (omega arith) in
+    let v2 : x2 .result .value ≡ le 4 (drop 16 p) = moved 4 (x2 .result .value) (x1 .result .next .at) 16 p (x2 .ensures .0) (omega arith) in
+    let v3 : x3 .result .value ≡ le 4 (drop 20 p) = moved 4 (x3 .result .value) (x2 .result .next .at) 20 p (x3 .ensures .0) (omega arith) in
     let e : modeOf (le 4 (drop 20 p)) ≡ MO.Bad = ap modeOf (sym v3) ∙ cc in
     simp (le-ltb _ _ l, e)
 

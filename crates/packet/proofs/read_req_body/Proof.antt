@@ -31,12 +31,12 @@ returns-2 : tie.Need-returns-2
 returns-2 c =
     let p : List ℕ = now (c .before .before .before .before .before .args .p) in
     let l : 20 ≤ length p = omega arith in
-    let v0 : c .before .before .word .result .value ≡ le 4 (drop 8 p) =
-    moved 4 (c .before .before .word .result .value) 8 8 p (c .before .before .word .ensures .0) (omega arith) in
-    let v1 : c .before .word2 .result .value ≡ le 4 (drop 12 p) =
-    moved 4 (c .before .word2 .result .value) (c .before .before .word .result .next .at) 12 p (c .before .word2 .ensures .0) (omega arith) in
-    let v2 : c .word3 .result .value ≡ le 4 (drop 16 p) =
-    moved 4 (c .word3 .result .value) (c .before .word2 .result .next .at) 16 p (c .word3 .ensures .0) (omega arith) in
+    let x0 = c .before .before .word in
+    let x1 = c .before .word2 in
+    let x2 = c .word3 in
+    let v0 : x0 .result .value ≡ le 4 (drop 8 p) = moved 4 (x0 .result .value) 8 8 p (x0 .ensures .0) (omega arith) in
+    let v1 : x1 .result .value ≡ le 4 (drop 12 p) = moved 4 (x1 .result .value) (x0 .result .next .at) 12 p (x1 .ensures .0) (omega arith) in
+    let v2 : x2 .result .value ≡ le 4 (drop 16 p) = moved 4 (x2 .result .value) (x1 .result .next .at) 16 p (x2 .ensures .0) (omega arith) in
     cc (whole-body K.ReadData p l)
 
 pub read-req-body-spec : {M : Type 1} → statement M

@@ -51,11 +51,12 @@ enum-told-3 c = search needs
 returns-2 : tie.Need-returns-2
 unfolding decodeOf
 returns-2 c =
+    let x = c .before .before .before .before .before .before .before .word in
+    let y = c .before .before .before .before .before .before .word2 in
     let p : List ℕ = now (c .before .before .before .before .before .before .before .before .before .before .args .p) in
     let l : 8 ≤ length p = omega arith in
-    let e : classOf (le 4 (drop 0 p)) ≡ C.Kind (c .before .before .before .k .given .0 .0) = ap classOf (sym (c .before .before .before .before .before .before .before .word .ensures .0)) ∙ cc in
-    let v : c .before .before .before .before .before .before .word2 .result .value ≡ le 4 (drop 4 p) =
-    moved 4 (c .before .before .before .before .before .before .word2 .result .value) (c .before .before .before .before .before .before .before .word .result .next .at) 4 p (c .before .before .before .before .before .before .word2 .ensures .0) (omega arith) in
+    let e : classOf (le 4 (drop 0 p)) ≡ C.Kind (c .before .before .before .k .given .0 .0) = ap classOf (sym (x .ensures .0)) ∙ cc in
+    let v : y .result .value ≡ le 4 (drop 4 p) = moved 4 (y .result .value) (x .result .next .at) 4 p (y .ensures .0) (omega arith) in
     simp (le-ltb _ _ l, e) cc
 
 returns-3 : tie.Need-returns-3

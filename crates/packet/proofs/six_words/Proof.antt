@@ -32,18 +32,18 @@ word-requires-6 c κs = search needs
 returns : tie.Need-returns
 returns c =
     let p : List ℕ = now (c .before .before .before .before .before .before .before .args .p) in
-    let v0 : c .before .before .before .before .before .word .result .value ≡ le 4 (drop 24 p) =
-    moved 4 (c .before .before .before .before .before .word .result .value) 24 24 p (c .before .before .before .before .before .word .ensures .0) (omega arith) in
-    let v1 : c .before .before .before .before .word2 .result .value ≡ le 4 (drop 28 p) =
-    moved 4 (c .before .before .before .before .word2 .result .value) (c .before .before .before .before .before .word .result .next .at) 28 p (c .before .before .before .before .word2 .ensures .0) (omega arith) in
-    let v2 : c .before .before .before .word3 .result .value ≡ le 4 (drop 32 p) =
-    moved 4 (c .before .before .before .word3 .result .value) (c .before .before .before .before .word2 .result .next .at) 32 p (c .before .before .before .word3 .ensures .0) (omega arith) in
-    let v3 : c .before .before .word4 .result .value ≡ le 4 (drop 36 p) =
-    moved 4 (c .before .before .word4 .result .value) (c .before .before .before .word3 .result .next .at) 36 p (c .before .before .word4 .ensures .0) (omega arith) in
-    let v4 : c .before .word5 .result .value ≡ le 4 (drop 40 p) =
-    moved 4 (c .before .word5 .result .value) (c .before .before .word4 .result .next .at) 40 p (c .before .word5 .ensures .0) (omega arith) in
-    let v5 : c .word6 .result .value ≡ le 4 (drop 44 p) =
-    moved 4 (c .word6 .result .value) (c .before .word5 .result .next .at) 44 p (c .word6 .ensures .0) (omega arith) in
+    let x0 = c .before .before .before .before .before .word in
+    let x1 = c .before .before .before .before .word2 in
+    let x2 = c .before .before .before .word3 in
+    let x3 = c .before .before .word4 in
+    let x4 = c .before .word5 in
+    let x5 = c .word6 in
+    let v0 : x0 .result .value ≡ le 4 (drop 24 p) = moved 4 (x0 .result .value) 24 24 p (x0 .ensures .0) (omega arith) in
+    let v1 : x1 .result .value ≡ le 4 (drop 28 p) = moved 4 (x1 .result .value) (x0 .result .next .at) 28 p (x1 .ensures .0) (omega arith) in
+    let v2 : x2 .result .value ≡ le 4 (drop 32 p) = moved 4 (x2 .result .value) (x1 .result .next .at) 32 p (x2 .ensures .0) (omega arith) in
+    let v3 : x3 .result .value ≡ le 4 (drop 36 p) = moved 4 (x3 .result .value) (x2 .result .next .at) 36 p (x3 .ensures .0) (omega arith) in
+    let v4 : x4 .result .value ≡ le 4 (drop 40 p) = moved 4 (x4 .result .value) (x3 .result .next .at) 40 p (x4 .ensures .0) (omega arith) in
+    let v5 : x5 .result .value ≡ le 4 (drop 44 p) = moved 4 (x5 .result .value) (x4 .result .next .at) 44 p (x5 .ensures .0) (omega arith) in
     cc
 
 pub six-words-spec : {M : Type 1} → statement M
