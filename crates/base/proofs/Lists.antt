@@ -1,10 +1,11 @@
--- Laws of stores into a list, over any element.
+-- Laws of lists that the kit does not have: stores, and a part of a part. Assumes nothing.
 use mathlib.Core.Path.{_≡_, refl}
 use mathlib.Core.List.{List, [], _∷_, _++_}
-use Prim.Native.Nat.{ℕ, suc, _+_, _≤_}
+use Prim.Native.Nat.{ℕ, zero, suc, _+_, _≤_}
 use native.Mathlib.Nat.{add-zero, add-suc, suc-add, zero-add}
-use lib.ListN.{length, drop, set}
-use lib.Seq.{sets, sets-eq}
+use native.Mathlib.Omega.{arith}
+use lib.ListN.{length, take, drop, set}
+use lib.Seq.{sets, sets-eq, take-take, drop-drop}
 
 -- a store of two runs is two stores
 pub sets-append : (xs ys d : List ℕ) (at : ℕ) → sets d at (xs ++ ys) ≡ sets (sets d at xs) (at + length xs) ys
@@ -14,3 +15,14 @@ sets-append (x ∷ xs) ys d at = rw (add-suc, ← suc-add) (sets-append xs ys (s
 -- a store at the front is the run, then what stood behind it
 pub sets-front : (xs d : List ℕ) → length xs ≤ length d → sets d 0 xs ≡ xs ++ drop (length xs) d
 sets-front xs d h = rw (sets-eq xs d 0 (rw zero-add h), zero-add) refl
+
+-- a part of a list's first n is that part of the list
+pub part-of-first : {A : Type 0} (o l n : ℕ) (xs : List A) → o + l ≤ n → take l (drop o (take n xs)) ≡ take l (drop o xs)
+part-of-first zero l n xs h = take-take l n xs (omega arith)
+part-of-first (suc o) l zero xs h = absurd (omega arith)
+part-of-first (suc o) l (suc n) [] h = refl
+part-of-first (suc o) l (suc n) (x ∷ xs) h = part-of-first o l n xs (omega arith)
+
+-- and of the n from m on, that part of the list from m on
+pub part-of-part : {A : Type 0} (o l n m : ℕ) (xs : List A) → o + l ≤ n → take l (drop o (take n (drop m xs))) ≡ take l (drop (m + o) xs)
+part-of-part o l n m xs h = rw (part-of-first o l n (drop m xs) h, drop-drop o m xs) refl

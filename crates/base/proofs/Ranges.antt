@@ -1,4 +1,5 @@
--- Tests: by which way one goes, a test that holds at each number of a range, computed once, and of two numbers, which is the less.
+-- Tests: by which way one goes, which way a choice came, a test that holds at each number of a range, computed once, and of two numbers, which is
+-- the less.
 -- Assumes nothing.
 use mathlib.Core.Path.{_≡_, refl, subst}
 use mathlib.Core.Bool.{Bool, true, false}
@@ -13,6 +14,20 @@ use Rattle.base.specs.Choice.{pick}
 pub by-test : {X : Type 0} (b : Bool) → (b ≡ true → X) → (b ≡ false → X) → X
 by-test true f g = f refl
 by-test false f g = g refl
+
+-- a choice whose value is not the first branch's came by the second, and one whose value is not the second's by the first
+pub by-else : {A : Type 0} (t : Bool) (x y : A) {a : A} → (x ≡ a → ⊥) → pick t x y ≡ a → (t ≡ false) × (y ≡ a)
+by-else true x y n h = absurd (n h)
+by-else false x y n h = (refl, h)
+
+pub by-then : {A : Type 0} (t : Bool) (x y : A) {a : A} → (y ≡ a → ⊥) → pick t x y ≡ a → (t ≡ true) × (x ≡ a)
+by-then true x y n h = (refl, h)
+by-then false x y n h = absurd (n h)
+
+-- a choice between equals
+pub either : {A : Type 0} (t : Bool) (x : A) → pick t x x ≡ x
+either true x = refl
+either false x = refl
 
 -- one number is below another, or it is not
 pub below-or-not : (a b : ℕ) → (a < b) ⊎ (b ≤ a)

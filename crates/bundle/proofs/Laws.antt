@@ -10,23 +10,10 @@ use borrow.Author.Tests.{ltb-false, leb-true, eqb-true, le-ltb, le-leb, lt-leb}
 use lib.Dec.{ltb, leb, eqb}
 use lib.ListN.{length}
 use Rattle.base.specs.Choice.{pick}
+use Rattle.base.proofs.Ranges.{by-else, by-then, either}
 use Rattle.bundle.specs.Bundle.{countOf, sizeOf, startOf, lengthOf, dataOf, absent, slotGood, slotsGood, wellFormed, slotOf}
 use Rattle.bundle.specs.declared.Checked.the-variants as C
 use Rattle.bundle.specs.declared.Slot.the-variants as S
-
--- a choice whose value is not the first branch's came by the second, and one whose value is not the second's by the first
-pub by-else : {A : Type 0} (t : Bool) (x y : A) {a : A} → (x ≡ a → ⊥) → pick t x y ≡ a → (t ≡ false) × (y ≡ a)
-by-else true x y n h = absurd (n h)
-by-else false x y n h = (refl, h)
-
-pub by-then : {A : Type 0} (t : Bool) (x y : A) {a : A} → (y ≡ a → ⊥) → pick t x y ≡ a → (t ≡ true) × (x ≡ a)
-by-then true x y n h = (refl, h)
-by-then false x y n h = absurd (n h)
-
--- a choice between equals
-either : {A : Type 0} (t : Bool) (x : A) → pick t x x ≡ x
-either true x = refl
-either false x = refl
 
 -- what a check's answer tells of its test
 pub checked-good : (t : Bool) (k : ℕ) → pick t C.Good (C.Refused k) ≡ C.Good → t ≡ true

@@ -1,6 +1,5 @@
 // Bundles: the check of an image set and of a name list, and one slot of either.
-use field::Field4;
-use field::u32_at;
+use field::u32_padded;
 ghost use mathlib.Core.Path.{_≡_};
 ghost use mathlib.Core.Bool.{false};
 ghost use Prim.Native.Nat.{_+_, _*_, _<_, _≤_};
@@ -33,15 +32,11 @@ pub enum Slot {
     Missing,
 }
 
-// A number that lies within the bytes.
+// A number of 4 bytes.
 fn number(b: &[u8], at: usize) -> usize
-    requires { ⌜ at + 4 ≤ length (now b) ⌝ }
     ensures { λ r. ⌜ (r ≡ le 4 (drop at (now (b .entry)))) × (r < 4294967296) ⌝ }
 {
-    match u32_at(b, at) {
-        Field4::Is(v) => v as usize,
-        Field4::Short => 0,
-    }
+    u32_padded(b, at) as usize
 }
 
 // The start of slot i of n.

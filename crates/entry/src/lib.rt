@@ -1,10 +1,8 @@
 // Entries of the memory table, decoded from its bytes.
-use field::Field8;
-use field::u64_at;
+use field::u64_padded;
 ghost use mathlib.Core.Path.{_≡_};
 ghost use Prim.Native.Nat.{_+_, _≤_};
 ghost use lib.ListN.{length, take, drop};
-ghost use Rattle.field.specs.Field.{le};
 ghost use Rattle.entry.specs.Entry.{decoded, nothing, entryAt};
 
 pub struct RamdumpTable64 {
@@ -19,17 +17,6 @@ pub struct RamdumpTable64 {
 pub struct EntryAt {
     pub there: bool,
     pub entry: RamdumpTable64,
-}
-
-// The number of 8 bytes at a place.
-fn number_at(table: &[u8], at: usize) -> u64
-    requires { ⌜ at + 8 ≤ length (now table) ⌝ }
-    ensures { λ r. ⌜ r ≡ le 8 (drop at (now (table .entry))) ⌝ }
-{
-    match u64_at(table, at) {
-        Field8::Is(v) => v,
-        Field8::Short => 0,
-    }
 }
 
 // The text of 20 bytes at a place.
@@ -51,9 +38,9 @@ fn decode(table: &[u8], at: usize) -> RamdumpTable64
     requires { ⌜ at + 64 ≤ length (now table) ⌝ }
     ensures { λ r. ⌜ r ≡ decoded 8 (take 64 (drop at (now (table .entry)))) ⌝ }
 {
-    let save_pref = number_at(table, at);
-    let base = number_at(table, at + 8);
-    let len = number_at(table, at + 16);
+    let save_pref = u64_padded(table, at);
+    let base = u64_padded(table, at + 8);
+    let len = u64_padded(table, at + 16);
     let description = text_at(table, at + 24);
     let filename = text_at(table, at + 44);
     RamdumpTable64 {

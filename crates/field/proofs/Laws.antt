@@ -20,7 +20,7 @@ use native.Mathlib.Nat.{
   div-div-eq-div-mul,
 }
 use borrow.Author.Tests.{le-leb, lt-leb}
-use lib.ListN.{length, getD, drop, take}
+use lib.ListN.{length, getD, drop, take, drop-of-length-le}
 use lib.Arith.{mod-mul}
 use lib.Dec.{lit<}
 use lib.Seq.{sets, sets-eq, drop-at, length-take-le}
@@ -45,6 +45,12 @@ le-step (suc w) (suc at) (b ∷ bs) = le-step (suc w) at bs
 le-zero : (s : List ℕ) → le zero s ≡ 0
 unfolding le
 le-zero s = refl
+
+-- where no byte stands, 0
+pub le-past : (w at : ℕ) (s : List ℕ) → length s ≤ at → le w (drop at s) ≡ 0
+unfolding le
+le-past zero at s h = refl
+le-past (suc w) at s h = rw (drop-of-length-le s h) refl
 
 -- a field of a + b bytes is one of a bytes and one of b bytes above it
 pub le-split : (a b at : ℕ) (s : List ℕ) → le (a + b) (drop at s) ≡ le a (drop at s) + 256 ^ a * le b (drop (at + a) s)
@@ -118,7 +124,8 @@ le-within w (suc at) (suc n) [] h = refl
 le-within w (suc at) (suc n) (b ∷ bs) h = le-within w at n bs (omega arith)
 
 -- a field that lies within the bytes is told; one that does not is short
-pub field-is : {A : Type 0} (w : ℕ) (is : ℕ → A) (short : A) (s : List ℕ) (at : ℕ) → at + w ≤ length s → fieldAt w is short s at ≡ is (le w (drop at s))
+pub field-is : {A : Type 0} (w : ℕ) (is : ℕ → A) (short : A) (s : List ℕ) (at : ℕ) → at + w ≤ length s
+    → fieldAt w is short s at ≡ is (le w (drop at s))
 unfolding fieldAt
 field-is w is short s at h = simp (le-leb _ _ h)
 
@@ -158,15 +165,21 @@ module _ {A : Type 0} (w : ℕ) (is : ℕ → A) (short : A) (differ : (v : ℕ)
       ⊎-elim (λ h. absurd (differ (le w (drop at s)) (sym (h .0) ∙ e))) (λ h. h .1) (field-cases w is short s at)
 
 -- of 4 and of 8 bytes
+is≢short4 : (v : ℕ) → F4.Is v ≡ F4.Short → ⊥
+is≢short4 v e = let z : _≡_ {A = ℕ} 0 1 = cc in omega arith
+
+is≢short8 : (v : ℕ) → F8.Is v ≡ F8.Short → ⊥
+is≢short8 v e = let z : _≡_ {A = ℕ} 0 1 = cc in omega arith
+
 module _ (s : List ℕ) (at : ℕ) where
   pub field4-is : (v : ℕ) → field4 s at ≡ F4.Is v → (at + 4 ≤ length s) × (v ≡ le 4 (drop at s))
-  field4-is = told-is 4 F4.Is F4.Short (λ v e. absurd (let z : _≡_ {A = ℕ} 0 1 = cc in omega arith)) (λ x y e. cc) s at
+  field4-is = told-is 4 F4.Is F4.Short is≢short4 (λ x y e. cc) s at
 
   pub field4-short : field4 s at ≡ F4.Short → length s < at + 4
-  field4-short = told-short 4 F4.Is F4.Short (λ v e. absurd (let z : _≡_ {A = ℕ} 0 1 = cc in omega arith)) (λ x y e. cc) s at
+  field4-short = told-short 4 F4.Is F4.Short is≢short4 (λ x y e. cc) s at
 
   pub field8-is : (v : ℕ) → field8 s at ≡ F8.Is v → (at + 8 ≤ length s) × (v ≡ le 8 (drop at s))
-  field8-is = told-is 8 F8.Is F8.Short (λ v e. absurd (let z : _≡_ {A = ℕ} 0 1 = cc in omega arith)) (λ x y e. cc) s at
+  field8-is = told-is 8 F8.Is F8.Short is≢short8 (λ x y e. cc) s at
 
   pub field8-short : field8 s at ≡ F8.Short → length s < at + 8
-  field8-short = told-short 8 F8.Is F8.Short (λ v e. absurd (let z : _≡_ {A = ℕ} 0 1 = cc in omega arith)) (λ x y e. cc) s at
+  field8-short = told-short 8 F8.Is F8.Short is≢short8 (λ x y e. cc) s at

@@ -1,5 +1,6 @@
 -- Little-endian fields over a width in bytes. Document 01, opening paragraph: "Values are little-endian, unsigned"; bincode 1 fixes the widths,
--- 4 and 8. One definition each way; a field that does not lie within the bytes is an answer of its own.
+-- 4 and 8. One definition each way. Of a field that does not lie within the bytes, `le` takes the missing ones for 0, and `fieldAt` has an answer of
+-- its own.
 use Prim.Native.Nat.{ℕ, zero, suc, _+_, _*_, _/_, _%_}
 use mathlib.Core.List.{List, [], _∷_}
 use lib.Dec.{leb}

@@ -1,7 +1,7 @@
-// Little-endian fields of 4 and 8 bytes, read and written anywhere in a slice. A field that does not fit is an answer.
+// Little-endian fields of 4 and 8 bytes, read and written anywhere in a slice. A field that does not fit is an answer, or is read with zeros.
 ghost use mathlib.Core.Path.{_≡_};
-ghost use Prim.Native.Nat.{ℕ, _+_, _<_, _≤_};
-ghost use lib.ListN.{length, drop};
+ghost use Prim.Native.Nat.{_+_, _*_, _≤_};
+ghost use lib.ListN.{length, drop, getD};
 ghost use lib.Seq.{sets};
 ghost use Rattle.field.specs.Field.{le, leBytes, field4, field8, written, putAt};
 
@@ -20,26 +20,32 @@ pub enum Put {
     Short,
 }
 
-fn wide(x: u8) -> u32
-    ensures { λ r. ⌜ (r ≡ x) × (r < 256) ⌝ }
+// Four bytes as a number, the least first.
+fn word(a: u8, b: u8, c: u8, d: u8) -> u32
+    ensures { λ r. ⌜ r ≡ a + 256 * (b + 256 * (c + 256 * d)) ⌝ }
 {
-    x as u32
+    (a as u32) + 256 * ((b as u32) + 256 * ((c as u32) + 256 * (d as u32)))
+}
+
+// Two numbers of 4 bytes as one of 8, the least first.
+fn long(lo: u32, hi: u32) -> u64
+    ensures { λ r. ⌜ r ≡ lo + 4294967296 * hi ⌝ }
+{
+    (lo as u64) + 4294967296 * (hi as u64)
 }
 
 fn get4(s: &[u8], at: usize) -> u32
     requires { ⌜ at + 4 ≤ length (now s) ⌝ }
     ensures { λ r. ⌜ r ≡ le 4 (drop at (now (s .entry))) ⌝ }
 {
-    wide(s[at]) + 256 * (wide(s[at + 1]) + 256 * (wide(s[at + 2]) + 256 * wide(s[at + 3])))
+    word(s[at], s[at + 1], s[at + 2], s[at + 3])
 }
 
 fn get8(s: &[u8], at: usize) -> u64
     requires { ⌜ at + 8 ≤ length (now s) ⌝ }
     ensures { λ r. ⌜ r ≡ le 8 (drop at (now (s .entry))) ⌝ }
 {
-    let lo = get4(s, at) as u64;
-    let hi = get4(s, at + 4) as u64;
-    lo + 4294967296 * hi
+    long(get4(s, at), get4(s, at + 4))
 }
 
 fn set4(d: &mut [u8], at: usize, v: u32)
@@ -86,6 +92,47 @@ pub fn u64_at(s: &[u8], at: usize) -> Field8
         return Field8::Short;
     }
     Field8::Is(get8(s, at))
+}
+
+// A byte, 0 where there is none.
+fn byte_at(s: &[u8], at: usize) -> u8
+    ensures { λ r. ⌜ r ≡ getD (now (s .entry)) at 0 ⌝ }
+{
+    if s.len() <= at {
+        return 0;
+    }
+    s[at]
+}
+
+// The number that 4 bytes at a place write; a byte that is not there is 0.
+pub fn u32_padded(s: &[u8], at: usize) -> u32
+    ensures { λ r. ⌜ r ≡ le 4 (drop at (now (s .entry))) ⌝ }
+{
+    if s.len() <= at {
+        return 0;
+    }
+    if 4 <= s.len() - at {
+        return get4(s, at);
+    }
+    word(
+        byte_at(s, at),
+        byte_at(s, at + 1),
+        byte_at(s, at + 2),
+        byte_at(s, at + 3),
+    )
+}
+
+// The number that 8 bytes at a place write; a byte that is not there is 0.
+pub fn u64_padded(s: &[u8], at: usize) -> u64
+    ensures { λ r. ⌜ r ≡ le 8 (drop at (now (s .entry))) ⌝ }
+{
+    if s.len() <= at {
+        return 0;
+    }
+    if 8 <= s.len() - at {
+        return get8(s, at);
+    }
+    long(u32_padded(s, at), u32_padded(s, at + 4))
 }
 
 // Writes a field of 4 bytes at a place.

@@ -23,9 +23,13 @@ rangeIn (At start size) offset len = pick (leb (offset + len) size) (R.At (start
 rangeIn Absent offset len = R.Refused 12
 rangeIn Missing offset len = R.Refused 12
 
+-- the range of any bytes: the set is not judged, so this never refuses with 1
+abbrev pub rangeUnjudged : List ℕ → ℕ → ℕ → ℕ → ImageRange
+rangeUnjudged set id offset len = rangeIn (slotOf set (slotFor (countOf set) id)) offset len
+
+-- the range of an image set, which is well-formed or refused
 unfoldable pub rangeOf : List ℕ → ℕ → ℕ → ℕ → ImageRange
-rangeOf set id offset len =
-    pick (wellFormed true set) (rangeIn (slotOf set (slotFor (countOf set) id)) offset len) (R.Refused 1)
+rangeOf set id offset len = pick (wellFormed true set) (rangeUnjudged set id offset len) (R.Refused 1)
 
 -- the bytes of a slot's image
 abbrev pub imageIn : List ℕ → Slot → List ℕ

@@ -3,13 +3,10 @@ use bundle::Checked;
 use bundle::Slot;
 use bundle::check_images;
 use bundle::slot_at;
-use field::Field4;
-use field::u32_at;
+use field::u32_padded;
 ghost use mathlib.Core.Path.{_≡_};
-ghost use Prim.Native.Nat.{_+_, _<_, _≤_};
-ghost use lib.ListN.{length};
-ghost use Rattle.bundle.specs.Bundle.{countOf};
-ghost use Rattle.image.specs.Image.{slotFor, rangeIn, rangeOf};
+ghost use Prim.Native.Nat.{_+_, _<_};
+ghost use Rattle.image.specs.Image.{slotFor, rangeIn, rangeUnjudged, rangeOf};
 
 // The device's name for an image.
 pub struct ImageId(pub u64);
@@ -20,17 +17,6 @@ pub struct SlotNumber(pub u64);
 pub enum ImageRange {
     At(usize, usize),
     Refused(u8),
-}
-
-// The slot count of a set.
-fn count_of(set: &[u8]) -> u32
-    requires { ⌜ 8 ≤ length (now set) ⌝ }
-    ensures { λ r. ⌜ r ≡ countOf (now (set .entry)) ⌝ }
-{
-    match u32_at(set, 0) {
-        Field4::Is(n) => n,
-        Field4::Short => 0,
-    }
 }
 
 // The one-image rule, the only way from an image ID to a slot number.
@@ -59,6 +45,19 @@ fn part_of(start: usize, size: usize, offset: u64, len: u64) -> ImageRange
     ImageRange::At(start + from, count)
 }
 
+// Where the bytes that a read asks for stand in the set, which is not judged: for a caller that has checked it.
+pub fn image_range_unjudged(set: &[u8], id: ImageId, offset: u64, len: u64) -> ImageRange
+    ensures { λ r. ⌜ r ≡ rangeUnjudged (now (set .entry)) (id .0) offset len ⌝ }
+{
+    let n = u32_padded(set, 0);
+    let slot = slot_for(n, id);
+    match slot_at(set, slot.0 as usize) {
+        Slot::At(start, size) => part_of(start, size, offset, len),
+        Slot::Absent => ImageRange::Refused(12),
+        Slot::Missing => ImageRange::Refused(12),
+    }
+}
+
 // Where the bytes that a read asks for stand in the set.
 pub fn image_range(set: &[u8], id: ImageId, offset: u64, len: u64) -> ImageRange
     ensures { λ r. ⌜ r ≡ rangeOf (now (set .entry)) (id .0) offset len ⌝ }
@@ -66,10 +65,5 @@ pub fn image_range(set: &[u8], id: ImageId, offset: u64, len: u64) -> ImageRange
     let Checked::Good = check_images(set) else {
         return ImageRange::Refused(1);
     };
-    let slot = slot_for(count_of(set), id);
-    match slot_at(set, slot.0 as usize) {
-        Slot::At(start, size) => part_of(start, size, offset, len),
-        Slot::Absent => ImageRange::Refused(12),
-        Slot::Missing => ImageRange::Refused(12),
-    }
+    image_range_unjudged(set, id, offset, len)
 }

@@ -1,30 +1,44 @@
--- Laws of decoding: it looks at no more than the first 48 bytes, and what it accepts has at least the kind's least body. Both go by the kind.
--- Assumes nothing.
+-- Laws of decoding: what the proofs of the functions share; it looks at no more than the first 48 bytes; what it accepts has at least the kind's
+-- least body. The last two go by the kind. Assumes nothing.
 use mathlib.Core.Path.{_≡_, refl, sym, ap, _∙_}
-use mathlib.Core.Bool.{Bool, true, false}
 use mathlib.Core.List.{List}
-use mathlib.Core.Logic.{⊎-elim, _⊎_, inl, inr}
-use Prim.Native.Nat.{ℕ, zero, suc, _+_, _*_, _≤_, _<_, min}
+use mathlib.Core.Logic.{⊎-elim}
+use Prim.Native.Nat.{ℕ, _+_, _≤_, _<_}
 use native.Mathlib.Omega.{arith}
-use borrow.Author.Tests.{le-ltb, lt-ltb, ltb-true, ltb-false}
+use borrow.Author.Tests.{le-ltb, lt-ltb}
 use lib.Dec.{ltb, lit≤}
 use lib.ListN.{length, take, drop, length-take}
-use Rattle.base.specs.Choice.{pick}
 use Rattle.base.proofs.Ranges.{below-or-not, by-test}
 use Rattle.field.specs.Field.{le}
 use Rattle.field.proofs.Laws.{le-within}
 use Rattle.command.specs.Command.{leastBody, modeOf, commandOf, classOf}
 use Rattle.command.specs.declared.SaharaCmd.{SaharaCmd}
 use Rattle.command.specs.declared.SaharaCmd.the-variants as K
+use Rattle.command.specs.declared.SaharaMode.{SaharaMode}
+use Rattle.command.specs.declared.SaharaCmdModeCmd.{SaharaCmdModeCmd}
 use Rattle.command.specs.declared.ModeOf.{ModeOf}
 use Rattle.command.specs.declared.ModeOf.the-variants as MO
 use Rattle.command.specs.declared.CommandOf.{CommandOf}
 use Rattle.command.specs.declared.CommandOf.the-variants as CO
 use Rattle.command.specs.declared.Class.{Class}
 use Rattle.command.specs.declared.Class.the-variants as C
-use Rattle.packet.specs.Packet.{commandField, lengthField, kindIn, packetWith, unkOf, helloOf, helloRespOf, execRespOf, execDataOf, bodyOf, kindOf, helloWith, helloIn, byClass, decodeOf}
-use Rattle.packet.specs.declared.HelloBody.{HelloBody}
-use Rattle.packet.specs.declared.HelloBody.the-variants as H
+use Rattle.packet.specs.Packet.{
+  commandField,
+  lengthField,
+  word,
+  unkOf,
+  helloOf,
+  helloRespOf,
+  execRespOf,
+  execDataOf,
+  bodyOf,
+  kindOf,
+  packetWith,
+  byClass,
+  decodeOf,
+  kindIn,
+}
+use Rattle.packet.specs.declared.HelloResp.{HelloResp}
 use Rattle.packet.specs.declared.SaharaPacketBody.the-variants as B
 use Rattle.packet.specs.declared.Body.{Body}
 use Rattle.packet.specs.declared.Body.the-variants as Y
@@ -32,9 +46,16 @@ use Rattle.packet.specs.declared.Decoded.{Decoded}
 use Rattle.packet.specs.declared.Decoded.the-variants as D
 use Rattle.packet.specs.declared.SaharaPacket.{SaharaPacket}
 
--- a field that was read at a place which is known by another sum
-pub moved : (w v at at′ : ℕ) (p : List ℕ) → v ≡ le w (drop at p) → at ≡ at′ → v ≡ le w (drop at′ p)
-moved w v at at′ p e q = e ∙ ap (λ (k : ℕ). le w (drop k p)) q
+-- what `tells` said of a number that was read, a′, is what it says of the number that stands there
+pub read-as : {A B : Type 0} (tells : ℕ → A) (of : A → B) {n m : ℕ} {a a′ : A} → n ≡ m → a ≡ tells n → a ≡ a′ → of a′ ≡ of (tells m)
+read-as tells of e t h = ap of (sym h ∙ t ∙ ap tells e)
+
+-- either hello's body, of its words: the third is the greatest length of a Hello
+abbrev pub as-req : HelloResp → Body
+as-req h = Y.Is (B.HelloReq (record { ver = h .ver; compatible = h .compatible; «max_len» = h .status; mode = h .mode; unk = h .unk }))
+
+abbrev pub as-resp : HelloResp → Body
+as-resp h = Y.Is (B.HelloResp h)
 
 -- a body that is short is malformed; one that is not is read
 module _ (k : SaharaCmd) (p : List ℕ) where
@@ -46,34 +67,15 @@ module _ (k : SaharaCmd) (p : List ℕ) where
   unfolding kindOf
   whole-body h = simp (le-ltb _ _ h)
 
--- either hello's body is its parts, under the names of its kind
-abbrev pub asReq : HelloBody → Body
-asReq (H.Is h) =
-    Y.Is
-    (B.HelloReq (record { ver = h .ver; compatible = h .compatible; «max_len» = h .status; mode = h .mode; unk = h .unk }))
-asReq H.Malformed = Y.Malformed
+-- decoding below 8 bytes, and from 8 bytes on
+module _ (p : List ℕ) where
+  pub decode-short : length p < 8 → D.Refused 9 ≡ decodeOf p
+  unfolding decodeOf
+  decode-short l = simp (lt-ltb _ _ l)
 
-abbrev pub asResp : HelloBody → Body
-asResp (H.Is h) = Y.Is (B.HelloResp h)
-asResp H.Malformed = Y.Malformed
-
-pub hello-req : (p : List ℕ) → kindOf p K.Hello ≡ asReq (helloIn p)
-unfolding kindOf helloIn
-hello-req p = go (ltb (length p) 48) (modeOf (le 4 (drop 20 p)))
-  where
-    go : (t : Bool) (m : ModeOf) → pick t Y.Malformed (helloOf p m) ≡ asReq (pick t H.Malformed (helloWith p m))
-    go true m = refl
-    go false (MO.Is m) = refl
-    go false MO.Bad = refl
-
-pub hello-resp : (p : List ℕ) → kindOf p K.HelloResp ≡ asResp (helloIn p)
-unfolding kindOf helloIn
-hello-resp p = go (ltb (length p) 48) (modeOf (le 4 (drop 20 p)))
-  where
-    go : (t : Bool) (m : ModeOf) → pick t Y.Malformed (helloRespOf p m) ≡ asResp (pick t H.Malformed (helloWith p m))
-    go true m = refl
-    go false (MO.Is m) = refl
-    go false MO.Bad = refl
+  pub decode-whole : 8 ≤ length p → {d : Decoded} → d ≡ byClass p (classOf (commandField p)) → d ≡ decodeOf p
+  unfolding decodeOf
+  decode-whole l q = simp (le-ltb _ _ l) q
 
 -- a length below m is the same test after the first n bytes are taken
 short-window : (n m : ℕ) (p : List ℕ) → m ≤ n → ltb (length (take n p)) m ≡ ltb (length p) m
@@ -86,7 +88,7 @@ short-window n m p h =
 field-window : (w at : ℕ) (p : List ℕ) → at + w ≤ 48 → le w (drop at (take 48 p)) ≡ le w (drop at p)
 field-window w at p h = le-within w at 48 p h
 
-least-fits : (k : SaharaCmd) → 8 + leastBody k ≤ 48
+pub least-fits : (k : SaharaCmd) → 8 + leastBody k ≤ 48
 least-fits K.Hello = lit≤ tt
 least-fits K.HelloResp = lit≤ tt
 least-fits K.ReadData = lit≤ tt
@@ -181,33 +183,25 @@ abbrev kindOr : SaharaCmd → Body → SaharaCmd
 kindOr k (Y.Is b) = kindIn b
 kindOr k Y.Malformed = k
 
+by-mode : (P : ModeOf → Type 0) → ((m : SaharaMode) → P (MO.Is m)) → P MO.Bad → (x : ModeOf) → P x
+by-mode P is bad (MO.Is m) = is m
+by-mode P is bad MO.Bad = bad
+
+by-command : (P : CommandOf → Type 0) → ((c : SaharaCmdModeCmd) → P (CO.Is c)) → P CO.Bad → (x : CommandOf) → P x
+by-command P is bad (CO.Is c) = is c
+by-command P is bad CO.Bad = bad
+
 body-kind : (p : List ℕ) (k : SaharaCmd) → kindOr k (bodyOf p k) ≡ k
-body-kind p K.Hello = go (modeOf (le 4 (drop 20 p)))
-  where
-    go : (m : ModeOf) → kindOr K.Hello (helloOf p m) ≡ K.Hello
-    go (MO.Is m) = refl
-    go MO.Bad = refl
-body-kind p K.HelloResp = go (modeOf (le 4 (drop 20 p)))
-  where
-    go : (m : ModeOf) → kindOr K.HelloResp (helloRespOf p m) ≡ K.HelloResp
-    go (MO.Is m) = refl
-    go MO.Bad = refl
+body-kind p K.Hello = by-mode (λ m. kindOr K.Hello (helloOf p m) ≡ K.Hello) (λ m. refl) refl (modeOf (word p 3))
+body-kind p K.HelloResp = by-mode (λ m. kindOr K.HelloResp (helloRespOf p m) ≡ K.HelloResp) (λ m. refl) refl (modeOf (word p 3))
 body-kind p K.ReadData = refl
 body-kind p K.EndOfImage = refl
 body-kind p K.Done = refl
 body-kind p K.DoneResp = refl
 body-kind p K.ResetResp = refl
 body-kind p K.CommandReady = refl
-body-kind p K.ExecuteResp = go (commandOf (le 4 (drop 8 p)))
-  where
-    go : (c : CommandOf) → kindOr K.ExecuteResp (execRespOf p c) ≡ K.ExecuteResp
-    go (CO.Is c) = refl
-    go CO.Bad = refl
-body-kind p K.ExecuteData = go (commandOf (le 4 (drop 8 p)))
-  where
-    go : (c : CommandOf) → kindOr K.ExecuteData (execDataOf p c) ≡ K.ExecuteData
-    go (CO.Is c) = refl
-    go CO.Bad = refl
+body-kind p K.ExecuteResp = by-command (λ c. kindOr K.ExecuteResp (execRespOf p c) ≡ K.ExecuteResp) (λ c. refl) refl (commandOf (word p 0))
+body-kind p K.ExecuteData = by-command (λ c. kindOr K.ExecuteData (execDataOf p c) ≡ K.ExecuteData) (λ c. refl) refl (commandOf (word p 0))
 body-kind p K.MemDebug64 = refl
 body-kind p K.MemRead64 = refl
 body-kind p K.ReadData64 = refl

@@ -2,7 +2,7 @@
 -- Refusals, "Decode": 9 below 8 bytes; 6 unknown; 7 XML; 8 unimplemented; 9 short body or bad mode or command. The length field is handed on and not
 -- judged; `sahara_read_packet` refuses it outside 8..4096 (5).
 use Prim.Native.Nat.{ℕ, _+_, _*_}
-use mathlib.Core.Bool.{Bool, true, false}
+use mathlib.Core.Bool.{Bool, true}
 use mathlib.Core.List.{List}
 use lib.Dec.{ltb}
 use lib.ListN.{length, drop}
@@ -11,6 +11,7 @@ use Rattle.field.specs.Field.{le}
 use Rattle.command.specs.Command.{leastBody, modeOf, commandOf, classOf}
 use Rattle.command.specs.declared.SaharaCmd.{SaharaCmd}
 use Rattle.command.specs.declared.SaharaCmd.the-variants as K
+use Rattle.command.specs.declared.SaharaMode.{SaharaMode}
 use Rattle.command.specs.declared.ModeOf.{ModeOf}
 use Rattle.command.specs.declared.ModeOf.the-variants as MO
 use Rattle.command.specs.declared.CommandOf.{CommandOf}
@@ -20,8 +21,8 @@ use Rattle.command.specs.declared.Class.the-variants as C
 use Rattle.packet.specs.declared.Unk.{Unk}
 use Rattle.packet.specs.declared.SaharaPacketBody.{SaharaPacketBody}
 use Rattle.packet.specs.declared.SaharaPacketBody.the-variants as B
-use Rattle.packet.specs.declared.HelloBody.{HelloBody}
-use Rattle.packet.specs.declared.HelloBody.the-variants as H
+use Rattle.packet.specs.declared.HelloResp.{HelloResp}
+use Rattle.packet.specs.declared.Debug64Req.{Debug64Req}
 use Rattle.packet.specs.declared.Body.{Body}
 use Rattle.packet.specs.declared.Body.the-variants as Y
 use Rattle.packet.specs.declared.Decoded.{Decoded}
@@ -54,9 +55,11 @@ helloOf p (MO.Is m) =
 helloOf p MO.Bad = Y.Malformed
 
 -- "HelloResp: version, compatible, status, mode, six words."
+abbrev pub helloWords : List ℕ → SaharaMode → HelloResp
+helloWords p m = record { ver = word p 0; compatible = word p 1; status = word p 2; mode = m; unk = unkOf p }
+
 abbrev pub helloRespOf : List ℕ → ModeOf → Body
-helloRespOf p (MO.Is m) =
-    Y.Is (B.HelloResp (record { ver = word p 0; compatible = word p 1; status = word p 2; mode = m; unk = unkOf p }))
+helloRespOf p (MO.Is m) = Y.Is (B.HelloResp (helloWords p m))
 helloRespOf p MO.Bad = Y.Malformed
 
 -- "ExecuteResp: command, length."
@@ -68,6 +71,10 @@ execRespOf p CO.Bad = Y.Malformed
 abbrev pub execDataOf : List ℕ → CommandOf → Body
 execDataOf p (CO.Is c) = Y.Is (B.ExecData (record { command = c }))
 execDataOf p CO.Bad = Y.Malformed
+
+-- "Both 64-bit memory kinds: address, length (8 bytes each)."
+abbrev pub addressLength : List ℕ → Debug64Req
+addressLength p = record { addr = long p 0; len = long p 1 }
 
 -- the body of each kind, its least bytes being there
 abbrev pub bodyOf : List ℕ → SaharaCmd → Body
@@ -125,11 +132,3 @@ badLength n = pick (ltb n 8) true (ltb 4096 n)
 
 abbrev pub lengthChecked : ℕ → LengthCheck
 lengthChecked n = pick (badLength n) (L.Refused 5) L.Good
-
--- the body of either hello, as it is read: the third word is a HelloResp's status, a Hello's greatest length
-abbrev pub helloWith : List ℕ → ModeOf → HelloBody
-helloWith p (MO.Is m) = H.Is (record { ver = word p 0; compatible = word p 1; status = word p 2; mode = m; unk = unkOf p })
-helloWith p MO.Bad = H.Malformed
-
-unfoldable pub helloIn : List ℕ → HelloBody
-helloIn p = pick (ltb (length p) 48) H.Malformed (helloWith p (modeOf (word p 3)))

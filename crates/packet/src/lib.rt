@@ -8,17 +8,19 @@ use command::SaharaMode;
 use command::class_of;
 use command::command_of;
 use command::mode_of;
-use reader::Cursor;
-use reader::Long;
-use reader::Word;
-use reader::read_u32;
-use reader::read_u64;
+use field::Field4;
+use field::Field8;
+use reader::long_at;
+use reader::word_at;
 ghost use mathlib.Core.Path.{_≡_};
+ghost use Rattle.command.specs.Command.{leastBody};
 ghost use Rattle.command.specs.declared.SaharaCmd.the-variants as K;
-ghost use Prim.Native.Nat.{ℕ, _+_, _≤_};
+ghost use Prim.Native.Nat.{_+_, _≤_};
 ghost use lib.ListN.{length, drop};
 ghost use Rattle.field.specs.Field.{le};
-ghost use Rattle.packet.specs.Packet.{unkOf, helloIn, kindOf, packetWith, decodeOf, lengthChecked};
+ghost use Rattle.packet.specs.declared.Body.the-variants as Y;
+ghost use Rattle.packet.specs.declared.SaharaPacketBody.the-variants as B;
+ghost use Rattle.packet.specs.Packet.{unkOf, helloWords, addressLength, bodyOf, kindOf, packetWith, decodeOf, lengthChecked};
 
 // The six words of a hello that nobody uses.
 pub struct Unk {
@@ -124,45 +126,24 @@ pub enum Body {
     Malformed,
 }
 
-pub enum HelloBody {
-    Is(HelloResp),
-    Malformed,
-}
-
-// A field that was read, and the cursor behind it.
-struct Taken4 {
-    value: u32,
-    next: Cursor,
-}
-
-struct Taken8 {
-    value: u64,
-    next: Cursor,
-}
-
-fn word(p: &[u8], c: Cursor) -> Taken4
-    requires { ⌜ c .at + 4 ≤ length (now p) ⌝ }
-    ensures { λ r. ⌜ (r .value ≡ le 4 (drop (c .at) (now (p .entry)))) × (r .next .at ≡ c .at + 4) ⌝ }
+// The field of 4 bytes at an offset, which lies within the bytes; and of 8.
+fn word(p: &[u8], at: usize) -> u32
+    requires { ⌜ at + 4 ≤ length (now p) ⌝ }
+    ensures { λ r. ⌜ r ≡ le 4 (drop at (now (p .entry))) ⌝ }
 {
-    match read_u32(p, c) {
-        Word::Is(v, next) => Taken4 {
-            value: v,
-            next: next,
-        },
-        Word::Short => Taken4 { value: 0, next: c },
+    match word_at(p, at) {
+        Field4::Is(v) => v,
+        Field4::Short => 0,
     }
 }
 
-fn long(p: &[u8], c: Cursor) -> Taken8
-    requires { ⌜ c .at + 8 ≤ length (now p) ⌝ }
-    ensures { λ r. ⌜ (r .value ≡ le 8 (drop (c .at) (now (p .entry)))) × (r .next .at ≡ c .at + 8) ⌝ }
+fn long(p: &[u8], at: usize) -> u64
+    requires { ⌜ at + 8 ≤ length (now p) ⌝ }
+    ensures { λ r. ⌜ r ≡ le 8 (drop at (now (p .entry))) ⌝ }
 {
-    match read_u64(p, c) {
-        Long::Is(v, next) => Taken8 {
-            value: v,
-            next: next,
-        },
-        Long::Short => Taken8 { value: 0, next: c },
+    match long_at(p, at) {
+        Field8::Is(v) => v,
+        Field8::Short => 0,
     }
 }
 
@@ -171,53 +152,38 @@ fn six_words(p: &[u8]) -> Unk
     requires { ⌜ 48 ≤ length (now p) ⌝ }
     ensures { λ r. ⌜ r ≡ unkOf (now (p .entry)) ⌝ }
 {
-    let unk0 = word(p, Cursor { at: 24 });
-    let unk1 = word(p, unk0.next);
-    let unk2 = word(p, unk1.next);
-    let unk3 = word(p, unk2.next);
-    let unk4 = word(p, unk3.next);
-    let unk5 = word(p, unk4.next);
     Unk {
-        unk0: unk0.value,
-        unk1: unk1.value,
-        unk2: unk2.value,
-        unk3: unk3.value,
-        unk4: unk4.value,
-        unk5: unk5.value,
+        unk0: word(p, 24),
+        unk1: word(p, 28),
+        unk2: word(p, 32),
+        unk3: word(p, 36),
+        unk4: word(p, 40),
+        unk5: word(p, 44),
     }
 }
 
-// The body of either hello: three words, the mode, six words.
-fn hello_body(p: &[u8]) -> HelloBody
-    ensures { λ r. ⌜ r ≡ helloIn (now (p .entry)) ⌝ }
+// The words of either hello: the third is a HelloResp's status, a Hello's greatest length.
+fn hello_words(p: &[u8], mode: SaharaMode) -> HelloResp
+    requires { ⌜ 48 ≤ length (now p) ⌝ }
+    ensures { λ r. ⌜ r ≡ helloWords (now (p .entry)) mode ⌝ }
 {
-    if p.len() < 48 {
-        return HelloBody::Malformed;
-    }
-    let ver = word(p, Cursor { at: 8 });
-    let compatible = word(p, ver.next);
-    let status = word(p, compatible.next);
-    let mode = word(p, status.next);
-    match mode_of(mode.value) {
-        ModeOf::Is(m) => {
-            let unk = six_words(p);
-            HelloBody::Is(HelloResp {
-                ver: ver.value,
-                compatible: compatible.value,
-                status: status.value,
-                mode: m,
-                unk: unk,
-            })
-        }
-        ModeOf::Bad => HelloBody::Malformed,
+    let unk = six_words(p);
+    HelloResp {
+        ver: word(p, 8),
+        compatible: word(p, 12),
+        status: word(p, 16),
+        mode: mode,
+        unk: unk,
     }
 }
 
 fn hello_req_body(p: &[u8]) -> Body
-    ensures { λ r. ⌜ r ≡ kindOf (now (p .entry)) K.Hello ⌝ }
+    requires { ⌜ 48 ≤ length (now p) ⌝ }
+    ensures { λ r. ⌜ r ≡ bodyOf (now (p .entry)) K.Hello ⌝ }
 {
-    match hello_body(p) {
-        HelloBody::Is(h) => {
+    match mode_of(word(p, 20)) {
+        ModeOf::Is(m) => {
+            let h = hello_words(p, m);
             let mode = h.mode;
             let unk = h.unk;
             Body::Is(SaharaPacketBody::HelloReq(HelloReq {
@@ -228,155 +194,138 @@ fn hello_req_body(p: &[u8]) -> Body
                 unk: unk,
             }))
         }
-        HelloBody::Malformed => Body::Malformed,
+        ModeOf::Bad => Body::Malformed,
     }
 }
 
 fn hello_resp_body(p: &[u8]) -> Body
-    ensures { λ r. ⌜ r ≡ kindOf (now (p .entry)) K.HelloResp ⌝ }
+    requires { ⌜ 48 ≤ length (now p) ⌝ }
+    ensures { λ r. ⌜ r ≡ bodyOf (now (p .entry)) K.HelloResp ⌝ }
 {
-    match hello_body(p) {
-        HelloBody::Is(h) => Body::Is(SaharaPacketBody::HelloResp(h)),
-        HelloBody::Malformed => Body::Malformed,
+    match mode_of(word(p, 20)) {
+        ModeOf::Is(m) => Body::Is(SaharaPacketBody::HelloResp(hello_words(p, m))),
+        ModeOf::Bad => Body::Malformed,
     }
-}
-
-fn read_req_body(p: &[u8]) -> Body
-    ensures { λ r. ⌜ r ≡ kindOf (now (p .entry)) K.ReadData ⌝ }
-{
-    if p.len() < 20 {
-        return Body::Malformed;
-    }
-    let image = word(p, Cursor { at: 8 });
-    let offset = word(p, image.next);
-    let len = word(p, offset.next);
-    Body::Is(SaharaPacketBody::ReadReq(ReadReq {
-        image: image.value,
-        offset: offset.value,
-        len: len.value,
-    }))
-}
-
-fn eoi_body(p: &[u8]) -> Body
-    ensures { λ r. ⌜ r ≡ kindOf (now (p .entry)) K.EndOfImage ⌝ }
-{
-    if p.len() < 16 {
-        return Body::Malformed;
-    }
-    let image = word(p, Cursor { at: 8 });
-    let status = word(p, image.next);
-    Body::Is(SaharaPacketBody::Eoi(Eoi {
-        image: image.value,
-        status: status.value,
-    }))
-}
-
-fn done_resp_body(p: &[u8]) -> Body
-    ensures { λ r. ⌜ r ≡ kindOf (now (p .entry)) K.DoneResp ⌝ }
-{
-    if p.len() < 12 {
-        return Body::Malformed;
-    }
-    let status = word(p, Cursor { at: 8 });
-    Body::Is(SaharaPacketBody::DoneResp(DoneResp {
-        status: status.value,
-    }))
 }
 
 fn exec_resp_body(p: &[u8]) -> Body
-    ensures { λ r. ⌜ r ≡ kindOf (now (p .entry)) K.ExecuteResp ⌝ }
+    requires { ⌜ 16 ≤ length (now p) ⌝ }
+    ensures { λ r. ⌜ r ≡ bodyOf (now (p .entry)) K.ExecuteResp ⌝ }
 {
-    if p.len() < 16 {
-        return Body::Malformed;
-    }
-    let command = word(p, Cursor { at: 8 });
-    let len = word(p, command.next);
-    match command_of(command.value) {
+    match command_of(word(p, 8)) {
         CommandOf::Is(c) => Body::Is(SaharaPacketBody::ExecResp(ExecResp {
             command: c,
-            len: len.value,
+            len: word(p, 12),
         })),
         CommandOf::Bad => Body::Malformed,
     }
 }
 
 fn exec_data_body(p: &[u8]) -> Body
-    ensures { λ r. ⌜ r ≡ kindOf (now (p .entry)) K.ExecuteData ⌝ }
+    requires { ⌜ 12 ≤ length (now p) ⌝ }
+    ensures { λ r. ⌜ r ≡ bodyOf (now (p .entry)) K.ExecuteData ⌝ }
 {
-    if p.len() < 12 {
-        return Body::Malformed;
-    }
-    let command = word(p, Cursor { at: 8 });
-    match command_of(command.value) {
+    match command_of(word(p, 8)) {
         CommandOf::Is(c) => Body::Is(SaharaPacketBody::ExecData(ExecData { command: c })),
         CommandOf::Bad => Body::Malformed,
     }
 }
 
-fn debug64_body(p: &[u8]) -> Body
-    ensures { λ r. ⌜ r ≡ kindOf (now (p .entry)) K.MemDebug64 ⌝ }
+fn read_req(p: &[u8]) -> ReadReq
+    requires { ⌜ 20 ≤ length (now p) ⌝ }
+    ensures { λ r. ⌜ Y.Is (B.ReadReq r) ≡ bodyOf (now (p .entry)) K.ReadData ⌝ }
 {
-    if p.len() < 24 {
-        return Body::Malformed;
+    ReadReq {
+        image: word(p, 8),
+        offset: word(p, 12),
+        len: word(p, 16),
     }
-    let addr = long(p, Cursor { at: 8 });
-    let len = long(p, addr.next);
-    Body::Is(SaharaPacketBody::Debug64Req(Debug64Req {
-        addr: addr.value,
-        len: len.value,
-    }))
 }
 
-fn read_mem64_body(p: &[u8]) -> Body
-    ensures { λ r. ⌜ r ≡ kindOf (now (p .entry)) K.MemRead64 ⌝ }
+// The address and the length of either memory kind.
+fn mem64(p: &[u8]) -> Debug64Req
+    requires { ⌜ 24 ≤ length (now p) ⌝ }
+    ensures { λ r. ⌜ r ≡ addressLength (now (p .entry)) ⌝ }
 {
-    if p.len() < 24 {
-        return Body::Malformed;
+    Debug64Req {
+        addr: long(p, 8),
+        len: long(p, 16),
     }
-    let addr = long(p, Cursor { at: 8 });
-    let len = long(p, addr.next);
-    Body::Is(SaharaPacketBody::ReadMem64Req(ReadMem64Req {
-        addr: addr.value,
-        len: len.value,
-    }))
 }
 
-fn read_data64_body(p: &[u8]) -> Body
-    ensures { λ r. ⌜ r ≡ kindOf (now (p .entry)) K.ReadData64 ⌝ }
+fn read_data64(p: &[u8]) -> ReadData64Req
+    requires { ⌜ 32 ≤ length (now p) ⌝ }
+    ensures { λ r. ⌜ Y.Is (B.ReadData64Req r) ≡ bodyOf (now (p .entry)) K.ReadData64 ⌝ }
 {
-    if p.len() < 32 {
-        return Body::Malformed;
+    ReadData64Req {
+        image: long(p, 8),
+        offset: long(p, 16),
+        len: long(p, 24),
     }
-    let image = long(p, Cursor { at: 8 });
-    let offset = long(p, image.next);
-    let len = long(p, offset.next);
-    Body::Is(SaharaPacketBody::ReadData64Req(ReadData64Req {
-        image: image.value,
-        offset: offset.value,
-        len: len.value,
-    }))
 }
 
-// The body of a packet by its kind. A header of 8 bytes is there.
+// The least bytes of a kind's body.
+fn least_body(kind: SaharaCmd) -> usize
+    ensures { λ r. ⌜ r ≡ leastBody kind ⌝ }
+{
+    match kind {
+        SaharaCmd::Hello => 40,
+        SaharaCmd::HelloResp => 40,
+        SaharaCmd::ReadData => 12,
+        SaharaCmd::EndOfImage => 8,
+        SaharaCmd::Done => 0,
+        SaharaCmd::DoneResp => 4,
+        SaharaCmd::ResetResp => 0,
+        SaharaCmd::CommandReady => 0,
+        SaharaCmd::ExecuteResp => 8,
+        SaharaCmd::ExecuteData => 4,
+        SaharaCmd::MemDebug64 => 16,
+        SaharaCmd::MemRead64 => 16,
+        SaharaCmd::ReadData64 => 24,
+    }
+}
+
+// The body of a packet by its kind, whose least bytes are there.
 fn body_of(p: &[u8], kind: SaharaCmd) -> Body
-    requires { ⌜ 8 ≤ length (now p) ⌝ }
-    ensures { λ r. ⌜ r ≡ kindOf (now (p .entry)) kind ⌝ }
+    requires { ⌜ 8 + leastBody kind ≤ length (now p) ⌝ }
+    ensures { λ r. ⌜ r ≡ bodyOf (now (p .entry)) kind ⌝ }
 {
     match kind {
         SaharaCmd::Hello => hello_req_body(p),
         SaharaCmd::HelloResp => hello_resp_body(p),
-        SaharaCmd::ReadData => read_req_body(p),
-        SaharaCmd::EndOfImage => eoi_body(p),
+        SaharaCmd::ReadData => Body::Is(SaharaPacketBody::ReadReq(read_req(p))),
+        SaharaCmd::EndOfImage => Body::Is(SaharaPacketBody::Eoi(Eoi {
+            image: word(p, 8),
+            status: word(p, 12),
+        })),
         SaharaCmd::Done => Body::Is(SaharaPacketBody::DoneReq),
-        SaharaCmd::DoneResp => done_resp_body(p),
+        SaharaCmd::DoneResp => Body::Is(SaharaPacketBody::DoneResp(DoneResp {
+            status: word(p, 8),
+        })),
         SaharaCmd::ResetResp => Body::Is(SaharaPacketBody::ResetResp),
         SaharaCmd::CommandReady => Body::Is(SaharaPacketBody::CommandReady),
         SaharaCmd::ExecuteResp => exec_resp_body(p),
         SaharaCmd::ExecuteData => exec_data_body(p),
-        SaharaCmd::MemDebug64 => debug64_body(p),
-        SaharaCmd::MemRead64 => read_mem64_body(p),
-        SaharaCmd::ReadData64 => read_data64_body(p),
+        SaharaCmd::MemDebug64 => Body::Is(SaharaPacketBody::Debug64Req(mem64(p))),
+        SaharaCmd::MemRead64 => {
+            let m = mem64(p);
+            Body::Is(SaharaPacketBody::ReadMem64Req(ReadMem64Req {
+                addr: m.addr,
+                len: m.len,
+            }))
+        }
+        SaharaCmd::ReadData64 => Body::Is(SaharaPacketBody::ReadData64Req(read_data64(p))),
     }
+}
+
+// The same, malformed where it is short.
+fn kind_of(p: &[u8], kind: SaharaCmd) -> Body
+    ensures { λ r. ⌜ r ≡ kindOf (now (p .entry)) kind ⌝ }
+{
+    if p.len() < 8 + least_body(kind) {
+        return Body::Malformed;
+    }
+    body_of(p, kind)
 }
 
 fn packet_with(len: u32, body: Body) -> Decoded
@@ -395,13 +344,8 @@ pub fn sahara_parse_packet(p: &[u8]) -> Decoded
     if p.len() < 8 {
         return Decoded::Refused(9);
     }
-    let command = word(p, Cursor { at: 0 });
-    let len = word(p, command.next);
-    match class_of(command.value) {
-        Class::Kind(k) => {
-            let body = body_of(p, k);
-            packet_with(len.value, body)
-        }
+    match class_of(word(p, 0)) {
+        Class::Kind(k) => packet_with(word(p, 4), kind_of(p, k)),
         Class::Xml => Decoded::Refused(7),
         Class::Unimplemented => Decoded::Refused(8),
         Class::Unknown => Decoded::Refused(6),

@@ -11,18 +11,14 @@ use lib.Dec.{eqb}
 use lib.ListN.{length, take, drop, getD, length-map, length-take, length-drop, drop-of-length-le}
 use lib.Seq.{drop-cons}
 use Rattle.base.specs.Choice.{pick}
+use Rattle.base.proofs.Ranges.{by-test, either}
 use Rattle.bundle.proofs.Laws.{slot-within}
 use Rattle.bundle.specs.Bundle.{slotOf, countOf}
-use Rattle.bundle.specs.declared.Slot.the-variants.{At, Absent, Missing}
+use Rattle.bundle.specs.declared.Slot.the-variants.{At}
 use Rattle.filename.specs.Filename.{stemOf}
 use Rattle.entry.specs.Entry.{entrySize, entryOf, there, preferenceOf, filenameOf}
 use Rattle.entry.proofs.Laws.{there-take, entryOf-take}
-use Rattle.selection.specs.Selection.{low, namesFrom, same, member, named, selected, selectedAt, nextOf}
-
--- by the two values of a test
-either : {P : Type 0} (b : Bool) → (b ≡ true → P) → (b ≡ false → P) → P
-either true y n = y refl
-either false y n = n refl
+use Rattle.selection.specs.Selection.{low, withName, namesFrom, same, member, named, selected, selectedAt, nextOf}
 
 -- byte strings of different lengths are not the same
 pub same-length : (xs ys : List ℕ) → (length xs ≡ length ys → ⊥) → same xs ys ≡ false
@@ -30,10 +26,7 @@ unfolding same
 same-length [] [] h = absurd (h refl)
 same-length [] (y ∷ ys) h = refl
 same-length (x ∷ xs) [] h = refl
-same-length (x ∷ xs) (y ∷ ys) h = rw (same-length xs ys (λ e. h (ap suc e))) (both (eqb x y)) where
-  both : (b : Bool) → pick b false false ≡ false
-  both true = refl
-  both false = refl
+same-length (x ∷ xs) (y ∷ ys) h = rw (same-length xs ys (λ e. h (ap suc e))) (either (eqb x y) false)
 
 -- one byte of two strings, lowered, and the rest
 pub same-step : (xs ys : List ℕ) (j : ℕ) → j < length xs → j < length ys
@@ -70,17 +63,11 @@ named-at b n stem i start size h e =
     let k : n - i ≡ suc (n - (i + 1)) = omega arith in
     rw (k, add-one i, e) refl
 
--- an absent slot has no name
-pub named-absent : (b : List ℕ) (n : ℕ) (stem : List ℕ) (i : ℕ) → i < n → slotOf b i ≡ Absent → namedFrom b n stem i ≡ namedFrom b n stem (i + 1)
+-- a slot that adds no name is passed over: an absent or a missing one
+pub named-without : (b : List ℕ) (n : ℕ) (stem : List ℕ) (i : ℕ) → i < n → ((rest : List (List ℕ)) → withName b (slotOf b i) rest ≡ rest)
+    → namedFrom b n stem i ≡ namedFrom b n stem (i + 1)
 unfolding namesFrom
-named-absent b n stem i h e =
-    let k : n - i ≡ suc (n - (i + 1)) = omega arith in
-    rw (k, add-one i, e) refl
-
--- nor has a missing one
-pub named-missing : (b : List ℕ) (n : ℕ) (stem : List ℕ) (i : ℕ) → i < n → slotOf b i ≡ Missing → namedFrom b n stem i ≡ namedFrom b n stem (i + 1)
-unfolding namesFrom
-named-missing b n stem i h e =
+named-without b n stem i h e =
     let k : n - i ≡ suc (n - (i + 1)) = omega arith in
     rw (k, add-one i, e) refl
 
@@ -128,7 +115,7 @@ next-none f names t i = refl
 pub next-from : (f : ℕ) (names t : List ℕ) (k i : ℕ) → i ≤ nextOf f names t k i
 next-from f names t zero i = rw next-none (le-refl i)
 next-from f names t (suc k) i =
-    either (selectedAt f names t i)
+    by-test (selectedAt f names t i)
     (λ h. rw (next-here f names t k i h) (le-refl i))
     (λ h. rw (next-on f names t k i h) (omega (arith, next-from f names t k (suc i))))
 
@@ -136,7 +123,7 @@ next-from f names t (suc k) i =
 pub next-to : (f : ℕ) (names t : List ℕ) (k i : ℕ) → nextOf f names t k i ≤ i + k
 next-to f names t zero i = rw next-none (omega arith)
 next-to f names t (suc k) i =
-    either (selectedAt f names t i)
+    by-test (selectedAt f names t i)
     (λ h. rw (next-here f names t k i h) (omega arith))
     (λ h. rw (next-on f names t k i h) (omega (arith, next-to f names t k (suc i))))
 
@@ -144,7 +131,7 @@ next-to f names t (suc k) i =
 pub next-selected : (f : ℕ) (names t : List ℕ) (k i : ℕ) → nextOf f names t k i < i + k → selectedAt f names t (nextOf f names t k i) ≡ true
 next-selected f names t zero i l = absurd (omega (arith, next-none f names t i))
 next-selected f names t (suc k) i l =
-    either (selectedAt f names t i)
+    by-test (selectedAt f names t i)
     (λ h. ap (selectedAt f names t) (next-here f names t k i h) ∙ h)
     (λ h. ap (selectedAt f names t) (next-on f names t k i h) ∙ next-selected f names t k (suc i) (omega (arith, next-on f names t k i h)))
 
@@ -152,10 +139,10 @@ next-selected f names t (suc k) i l =
 pub next-first : (f : ℕ) (names t : List ℕ) (k i j : ℕ) → i ≤ j → j < nextOf f names t k i → selectedAt f names t j ≡ false
 next-first f names t zero i j h l = absurd (omega (arith, next-none f names t i))
 next-first f names t (suc k) i j h l =
-    either (selectedAt f names t i)
+    by-test (selectedAt f names t i)
     (λ e. absurd (omega (arith, next-here f names t k i e)))
     (λ e.
-    either (eqb i j)
+    by-test (eqb i j)
     (λ q. ap (selectedAt f names t) (sym (eqb-true i j q)) ∙ e)
     (λ q.
     let n : i ≡ j → ⊥ = eqb-false i j q in
@@ -172,6 +159,6 @@ next-take f names t (suc k) i n h =
     let m : entrySize f * (i + 1) ≤ n = le-trans (mul-le-mul-left (entrySize f) (omega arith)) h in
     let e : selectedAt f names (take n t) i ≡ selectedAt f names t i = selectedAt-take f names t i n m in
     let r : nextOf f names (take n t) k (suc i) ≡ nextOf f names t k (suc i) = next-take f names t k (suc i) n (rw (suc-add, ← add-suc) h) in
-    either (selectedAt f names t i)
+    by-test (selectedAt f names t i)
     (λ s. next-here f names (take n t) k i (e ∙ s) ∙ sym (next-here f names t k i s))
     (λ s. next-on f names (take n t) k i (e ∙ s) ∙ r ∙ sym (next-on f names t k i s))

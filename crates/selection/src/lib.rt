@@ -2,12 +2,11 @@
 use bundle::Slot;
 use bundle::slot_at;
 use entry::entry_at;
+use field::u32_padded;
 use filename::stem_len;
 ghost use mathlib.Core.Path.{_≡_};
 ghost use mathlib.Core.List.{map};
-ghost use Prim.Native.Nat.{_-_, _<_};
-ghost use lib.ListN.{getD};
-ghost use Rattle.bundle.specs.Bundle.{countOf};
+ghost use Prim.Native.Nat.{_-_};
 ghost use Rattle.selection.specs.Selection.{low, namesFrom, member, selectedAt, nextOf};
 
 // A letter of A..Z lowered; any other byte is itself.
@@ -20,24 +19,6 @@ pub fn lower(b: u8) -> u8
         }
     }
     b
-}
-
-// A byte, 0 where there is none.
-fn byte_at(s: &[u8], at: usize) -> u32
-    ensures { λ r. ⌜ (r ≡ getD (now (s .entry)) at 0) × (r < 256) ⌝ }
-{
-    if s.len() <= at {
-        return 0;
-    }
-    s[at] as u32
-}
-
-// The slot count of a name list; a byte that is not there counts 0.
-fn count(names: &[u8]) -> u32
-    ensures { λ r. ⌜ r ≡ countOf (now (names .entry)) ⌝ }
-{
-    byte_at(names, 0)
-        + 256 * (byte_at(names, 1) + 256 * (byte_at(names, 2) + 256 * byte_at(names, 3)))
 }
 
 // Whether a stem is one of n names, both sides lowered. The search is left at the first that is.
@@ -82,7 +63,7 @@ pub fn is_selected(table: &[u8], i: usize, names: &[u8]) -> bool
         return false;
     }
     let entry = e.entry;
-    let n = count(names) as usize;
+    let n = u32_padded(names, 0) as usize;
     if n == 0 {
         return entry.save_pref != 0;
     }

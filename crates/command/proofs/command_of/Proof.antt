@@ -24,7 +24,14 @@ returns-4 c = rw (c .match .keys4) refl
 
 returns-5 : tie.Need-returns-5
 unfolding commandOf
-returns-5 c = simp (ne-eqb (c .before .args .n) 0 (λ q. omega arith), ne-eqb (c .before .args .n) 1 (λ q. omega arith), ne-eqb (c .before .args .n) 2 (λ q. omega arith), ne-eqb (c .before .args .n) 3 (λ q. omega arith))
+returns-5 c =
+    let n = c .before .args .n in
+    simp (
+      ne-eqb n 0 (λ q. omega arith),
+      ne-eqb n 1 (λ q. omega arith),
+      ne-eqb n 2 (λ q. omega arith),
+      ne-eqb n 3 (λ q. omega arith),
+    )
 
 pub command-of-spec : {M : Type 1} → statement M
 command-of-spec = tie.close (tie.spec returns returns-2 returns-3 returns-4 returns-5)

@@ -1,75 +1,40 @@
--- `packet::exec_resp_body` meets its contract: short, or each field read where the one before it ends; by the command. Assumes nothing.
-use mathlib.Core.Path.{_≡_, sym, ap, _∙_}
-use mathlib.Core.List.{List}
-use Prim.Native.Nat.{ℕ, _≤_, _<_}
-use native.Mathlib.Omega.{arith}
-use denote.Ref.{now}
-use lib.ListN.{length, drop}
-use Rattle.field.specs.Field.{le}
-use Rattle.command.specs.declared.SaharaCmd.the-variants as K
-use borrow.Author.Tests.{le-ltb}
-use Rattle.command.specs.Command.{commandOf}
-use Rattle.command.specs.declared.CommandOf.the-variants as CO
-use Rattle.packet.specs.Packet.{kindOf}
-use Rattle.packet.proofs.Laws.{moved, short-body}
+-- `packet::exec_resp_body` meets its contract: by the command. Assumes nothing.
 use borrow.Author.Needs.{needs}
+use denote.Ref.{now}
+use Rattle.command.specs.Command.{commandOf}
+use Rattle.packet.specs.Packet.{execRespOf}
+use Rattle.packet.proofs.Laws.{read-as}
 use Rattle.packet.proofs.exec_resp_body.Statement.{statement}
 use Rattle.packet.proofs.exec_resp_body.Tie as tie
-
-returns : tie.Need-returns
-returns c =
-    let p : List ℕ = now (c .before .before .args .p) in
-    let l : length p < 16 = omega arith in
-    sym (short-body K.ExecuteResp p l)
 
 word-requires : tie.Need-word-requires
 word-requires c κs = search needs
 
+command-of-requires : tie.Need-command-of-requires
+command-of-requires c κs = tt
+
+enum-known-c : tie.Need-enum-known-c
+enum-known-c c = c .match .keys1
+
 word-requires-2 : tie.Need-word-requires-2
 word-requires-2 c κs = search needs
 
-command-of-requires : tie.Need-command-of-requires
-command-of-requires c κs = search needs
-
-enum-known-c : tie.Need-enum-known-c
-enum-known-c c = search needs
-
 enum-told : tie.Need-enum-told
-enum-told c = search needs
+enum-told c = c .match .keys2
+
+returns : tie.Need-returns
+returns c =
+    let m = c .before .before in
+    let r = m .before .before in
+    rw (c .word2 .ensures)
+    (read-as commandOf (execRespOf (now (r .before .before .before .args .p))) (r .before .word .ensures) (r .command-of .ensures) (m .c .given .1))
 
 returns-2 : tie.Need-returns-2
-unfolding kindOf
 returns-2 c =
-    let p : List ℕ = now (c .before .before .before .before .before .before .before .before .args .p) in
-    let l : 16 ≤ length p = omega arith in
-    let x0 = c .before .before .before .before .before .word in
-    let x1 = c .before .before .before .before .word2 in
-    let v0 : x0 .result .value ≡ le 4 (drop 8 p) = moved 4 (x0 .result .value) 8 8 p (x0 .ensures .0) (omega arith) in
-    let v1 : x1 .result .value ≡ le 4 (drop 12 p) = moved 4 (x1 .result .value) (x0 .result .next .at) 12 p (x1 .ensures .0) (omega arith) in
-    let e : commandOf (le 4 (drop 8 p)) ≡ CO.Is (c .before .c .given .0 .0) = ap commandOf (sym v0) ∙ cc in
-    simp (le-ltb _ _ l, e) cc
-
-returns-3 : tie.Need-returns-3
-unfolding kindOf
-returns-3 c =
-    let p : List ℕ = now (c .before .before .before .before .before .before .before .args .p) in
-    let l : 16 ≤ length p = omega arith in
-    let x0 = c .before .before .before .before .word in
-    let x1 = c .before .before .before .word2 in
-    let v0 : x0 .result .value ≡ le 4 (drop 8 p) = moved 4 (x0 .result .value) 8 8 p (x0 .ensures .0) (omega arith) in
-    let v1 : x1 .result .value ≡ le 4 (drop 12 p) = moved 4 (x1 .result .value) (x0 .result .next .at) 12 p (x1 .ensures .0) (omega arith) in
-    let e : commandOf (le 4 (drop 8 p)) ≡ CO.Bad = ap commandOf (sym v0) ∙ cc in
-    simp (le-ltb _ _ l, e)
+    let r = c .before .before in
+    read-as commandOf (execRespOf (now (r .before .before .before .args .p))) (r .before .word .ensures) (r .command-of .ensures)
+    (c .enum-told .given .1)
 
 pub exec-resp-body-spec : {M : Type 1} → statement M
 exec-resp-body-spec =
-    tie.close
-    (tie.spec
-    returns
-    word-requires
-    word-requires-2
-    command-of-requires
-    enum-known-c
-    enum-told
-    returns-2
-    returns-3)
+    tie.close (tie.spec word-requires command-of-requires enum-known-c word-requires-2 enum-told returns returns-2)

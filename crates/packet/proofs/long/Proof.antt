@@ -1,41 +1,26 @@
 -- `packet::long` meets its contract: the field lies within the bytes, so it is told. Assumes nothing.
-use mathlib.Core.Path.{_≡_, ap}
-use mathlib.Core.List.{List}
-use Prim.Native.Nat.{ℕ, _+_, _<_}
+use mathlib.Core.Path.{sym, _∙_}
 use native.Mathlib.Omega.{arith}
-use lib.ListN.{length}
-use denote.Ref.{now}
-use Rattle.reader.specs.Reader.{longAt}
-use Rattle.reader.specs.declared.Cursor.{Cursor}
-use Rattle.reader.specs.declared.Long.the-variants as W
-use Rattle.reader.proofs.Laws.{long-is, long-short}
-use borrow.Author.Needs.{needs}
+use Rattle.field.proofs.Laws.{field8-is, field8-short}
 use Rattle.packet.proofs.long.Statement.{statement}
 use Rattle.packet.proofs.long.Tie as tie
 
-read-u64-requires : tie.Need-read-u64-requires
-read-u64-requires c κs = search needs
+long-at-requires : tie.Need-long-at-requires
+long-at-requires c κs = tt
 
 enum-known-v : tie.Need-enum-known-v
-enum-known-v c = search needs
+enum-known-v c = c .match .keys1
 
 enum-told : tie.Need-enum-told
-enum-told c = search needs
+enum-told c = c .match .keys2
 
 returns : tie.Need-returns
-returns c =
-    let a = c .before .before .before .before .before .args in
-    let v = c .before .v .given .0 in
-    let e : longAt (now (a .p)) (a .c .at) ≡ W.Is (v .0) (v .1 .0) = cc in
-    let r = long-is (now (a .p)) (a .c .at) (v .0) (v .1 .0) e in
-    (r .value, ap (λ (x : Cursor). x .at) (r .behind))
+returns c = field8-is _ _ _ (sym (c .before .before .before .long-at .ensures) ∙ c .before .v .given .1) .1
 
 returns-2 : tie.Need-returns-2
 returns-2 c =
-    let a = c .before .before .before .before .args in
-    let e : longAt (now (a .p)) (a .c .at) ≡ W.Short = cc in
-    let l : length (now (a .p)) < a .c .at + 8 = long-short (now (a .p)) (a .c .at) e in
+    let l = field8-short _ _ (sym (c .before .before .long-at .ensures) ∙ c .enum-told .given .1) in
     absurd (omega arith)
 
 pub long-spec : {M : Type 1} → statement M
-long-spec = tie.close (tie.spec read-u64-requires enum-known-v enum-told returns returns-2)
+long-spec = tie.close (tie.spec long-at-requires enum-known-v enum-told returns returns-2)

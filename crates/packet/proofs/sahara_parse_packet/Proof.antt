@@ -1,87 +1,74 @@
 -- `packet::sahara_parse_packet` meets its contract: below 8 bytes; else by the class of the first word. Assumes nothing.
-use mathlib.Core.Path.{_≡_, sym, ap, _∙_}
-use mathlib.Core.List.{List}
-use Prim.Native.Nat.{ℕ, _≤_, _<_}
+use mathlib.Core.Path.{_∙_}
 use native.Mathlib.Omega.{arith}
-use borrow.Author.Tests.{lt-ltb, le-ltb}
-use denote.Ref.{now}
-use lib.ListN.{length, drop}
-use Rattle.field.specs.Field.{le}
-use Rattle.command.specs.Command.{classOf}
-use Rattle.command.specs.declared.Class.the-variants as C
-use Rattle.packet.specs.Packet.{decodeOf}
-use Rattle.packet.proofs.Laws.{moved}
 use borrow.Author.Needs.{needs}
+use denote.Ref.{now}
+use Rattle.command.specs.Command.{classOf}
+use Rattle.packet.specs.Packet.{byClass}
+use Rattle.packet.proofs.Laws.{decode-short, decode-whole, read-as}
 use Rattle.packet.proofs.sahara_parse_packet.Statement.{statement}
 use Rattle.packet.proofs.sahara_parse_packet.Tie as tie
 
 returns : tie.Need-returns
-unfolding decodeOf
-returns c =
-    let l : length (now (c .before .before .args .p)) < 8 = omega arith in
-    simp (lt-ltb _ _ l)
+returns c = decode-short _ (omega arith)
 
 word-requires : tie.Need-word-requires
 word-requires c κs = search needs
 
+class-of-requires : tie.Need-class-of-requires
+class-of-requires c κs = tt
+
+enum-known-k : tie.Need-enum-known-k
+enum-known-k c = c .match .keys1
+
 word-requires-2 : tie.Need-word-requires-2
 word-requires-2 c κs = search needs
 
-class-of-requires : tie.Need-class-of-requires
-class-of-requires c κs = search needs
-
-enum-known-k : tie.Need-enum-known-k
-enum-known-k c = search needs
-
-body-of-requires : tie.Need-body-of-requires
-body-of-requires c κs = search needs
+kind-of-requires : tie.Need-kind-of-requires
+kind-of-requires c κs = tt
 
 packet-with-requires : tie.Need-packet-with-requires
-packet-with-requires c κs = search needs
+packet-with-requires c κs = tt
 
 enum-told : tie.Need-enum-told
-enum-told c = search needs
+enum-told c = c .match .keys2
 
 enum-told-2 : tie.Need-enum-told-2
-enum-told-2 c = search needs
+enum-told-2 c = c .match .keys3
 
 enum-told-3 : tie.Need-enum-told-3
-enum-told-3 c = search needs
+enum-told-3 c = c .match .keys4
 
 returns-2 : tie.Need-returns-2
-unfolding decodeOf
 returns-2 c =
-    let x = c .before .before .before .before .before .before .before .word in
-    let y = c .before .before .before .before .before .before .word2 in
-    let p : List ℕ = now (c .before .before .before .before .before .before .before .before .before .before .args .p) in
-    let l : 8 ≤ length p = omega arith in
-    let e : classOf (le 4 (drop 0 p)) ≡ C.Kind (c .before .before .before .k .given .0 .0) = ap classOf (sym (x .ensures .0)) ∙ cc in
-    let v : y .result .value ≡ le 4 (drop 4 p) = moved 4 (y .result .value) (x .result .next .at) 4 p (y .ensures .0) (omega arith) in
-    simp (le-ltb _ _ l, e) cc
+    let m = c .before .before .before .before in
+    let r = m .before .before in
+    let p = now (r .before .before .before .before .args .p) in
+    decode-whole p (r .before .before .if1 .left)
+    (c .packet-with .ensures
+    ∙ rw (c .before .before .word2 .ensures, c .before .kind-of .ensures)
+    (read-as classOf (byClass p) (r .before .word .ensures) (r .class-of .ensures) (m .k .given .1)))
 
 returns-3 : tie.Need-returns-3
-unfolding decodeOf
 returns-3 c =
-    let p : List ℕ = now (c .before .before .before .before .before .before .before .args .p) in
-    let l : 8 ≤ length p = omega arith in
-    let e : classOf (le 4 (drop 0 p)) ≡ C.Xml = ap classOf (sym (c .before .before .before .before .word .ensures .0)) ∙ cc in
-    simp (le-ltb _ _ l, e)
+    let r = c .before .before in
+    let p = now (r .before .before .before .before .args .p) in
+    decode-whole p (r .before .before .if1 .left)
+    (read-as classOf (byClass p) (r .before .word .ensures) (r .class-of .ensures) (c .enum-told .given .1))
 
 returns-4 : tie.Need-returns-4
-unfolding decodeOf
 returns-4 c =
-    let p : List ℕ = now (c .before .before .before .before .before .before .before .args .p) in
-    let l : 8 ≤ length p = omega arith in
-    let e : classOf (le 4 (drop 0 p)) ≡ C.Unimplemented = ap classOf (sym (c .before .before .before .before .word .ensures .0)) ∙ cc in
-    simp (le-ltb _ _ l, e)
+    let r = c .before .before in
+    let p = now (r .before .before .before .before .args .p) in
+    decode-whole p (r .before .before .if1 .left)
+    (read-as classOf (byClass p) (r .before .word .ensures) (r .class-of .ensures) (c .enum-told2 .given .1))
 
 returns-5 : tie.Need-returns-5
-unfolding decodeOf
 returns-5 c =
-    let p : List ℕ = now (c .before .before .before .before .before .before .before .args .p) in
-    let l : 8 ≤ length p = omega arith in
-    let e : classOf (le 4 (drop 0 p)) ≡ C.Unknown = ap classOf (sym (c .before .before .before .before .word .ensures .0)) ∙ cc in
-    simp (le-ltb _ _ l, e)
+    let r = c .before .before in
+    let p = now (r .before .before .before .before .args .p) in
+    decode-whole p (r .before .before .if1 .left)
+    (read-as classOf (byClass p) (r .before .word .ensures) (r .class-of .ensures) (c .enum-told3 .given .1))
 
 pub sahara-parse-packet-spec : {M : Type 1} → statement M
 sahara-parse-packet-spec =
@@ -89,10 +76,10 @@ sahara-parse-packet-spec =
     (tie.spec
     returns
     word-requires
-    word-requires-2
     class-of-requires
     enum-known-k
-    body-of-requires
+    word-requires-2
+    kind-of-requires
     packet-with-requires
     enum-told
     enum-told-2

@@ -35,8 +35,8 @@ returns c =
     let h : there 8 (now (a .table)) (a .i) ≡ false = told (now (a .table)) (a .i) (r .result) false (r .ensures) (not-true _ (c .if1 .taken)) in
     sym (selected-missing 8 (now (a .names)) (now (a .table)) (a .i) h)
 
-count-requires : tie.Need-count-requires
-count-requires c κs = search needs
+u32-padded-requires : tie.Need-u32-padded-requires
+u32-padded-requires c κs = search needs
 
 cast-n : tie.Need-cast-n
 cast-n c = search needs
@@ -77,7 +77,7 @@ returns-3 c =
     let t : List ℕ = now (a .table) in
     let names : List ℕ = now (a .names) in
     let r = c .before .before .before .before .before .before .before .before .before .entry-at in
-    let n = c .before .before .before .before .before .before .count in
+    let n = c .before .before .before .before .before .before .u32-padded in
     let s = c .before .before .stem-len in
     let name : List ℕ = r .result .entry .filename in
     let f = c .before .before .before .before .before .before .before .before .if1 in
@@ -97,7 +97,7 @@ is-selected-spec =
     (tie.spec
     entry-at-requires
     returns
-    count-requires
+    u32-padded-requires
     cast-n
     returns-2
     slice-aggregate-stem-len

@@ -20,7 +20,7 @@ use Rattle.bundle.proofs.Slot.{the-type}
 use Rattle.bundle.specs.declared.Slot.{Slot}
 use Rattle.bundle.specs.declared.Slot.the-variants as S
 use Rattle.selection.specs.Selection.{low, same}
-use Rattle.selection.proofs.Laws.{namedFrom, named-done, named-at, named-absent, named-missing, same-step, same-done, named-unequal, named-all}
+use Rattle.selection.proofs.Laws.{namedFrom, named-done, named-at, named-without, same-step, same-done, named-unequal, named-all}
 use borrow.Author.Needs.{needs}
 use Rattle.selection.proofs.named.Statement.{statement}
 use Rattle.selection.proofs.named.Tie as tie
@@ -83,8 +83,8 @@ abbrev μ-names : tie.MeasureT-names
 nameless : (b : List ℕ) (n : ℕ) (stem : List ℕ) (i : ℕ) (x : Slot) → i < n → OneOf (1 ∷ 2 ∷ []) (tagOf the-type x) → slotOf b i ≡ x
     → namedFrom b n stem i ≡ namedFrom b n stem (i + 1)
 nameless b n stem i (S.At start size) h k e = absurd (⊎-elim (λ q. omega arith) (λ q. omega arith) k)
-nameless b n stem i S.Absent h k e = named-absent b n stem i h e
-nameless b n stem i S.Missing h k e = named-missing b n stem i h e
+nameless b n stem i S.Absent h k e = named-without b n stem i h (λ r. rw e refl)
+nameless b n stem i S.Missing h k e = named-without b n stem i h (λ r. rw e refl)
 
 names-holds : tie.Need-names-holds Inv-loop μ-loop Inv-names μ-names
 names-holds c = (omega arith, refl, refl)
