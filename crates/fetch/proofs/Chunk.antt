@@ -7,8 +7,8 @@ use native.Mathlib.Nat.{add-div-right, div-eq-of-lt, div-lt-iff-lt-mul}
 use lib.Dec.{ltb, lit≤}
 use borrow.Author.Tests.{ltb-true, ltb-false}
 use Rattle.base.proofs.Ranges.{by-test}
+use Rattle.verdict.specs.Opening.{chunkOf}
 use Rattle.verdict.specs.declared.Opening.{Opening}
-use Rattle.session.specs.Step.{chunkOf}
 use Rattle.fetch.specs.Plain.{chunkCount}
 
 pub record Chunk (z : ℕ) : Type 0 where

@@ -22,14 +22,13 @@ use Rattle.command.specs.declared.SaharaMode.the-variants as M
 use Rattle.packet.specs.Packet.{kindOf, decodeOf}
 use Rattle.build.specs.Build.{fields, words, longs, bytesOf}
 use Rattle.build.specs.declared.Request.the-variants as Q
+use Rattle.verdict.specs.Opening.{chunkOf, onUsb}
 use Rattle.verdict.specs.Verdict.{verdictOf}
 use Rattle.verdict.specs.declared.QdlBackend.{QdlBackend}
 use Rattle.verdict.specs.declared.QdlBackend.the-variants as U
 use Rattle.verdict.specs.declared.ExecCommand.the-variants as X
 use Rattle.verdict.specs.declared.Opening.{Opening}
 use Rattle.session.specs.Step.{
-  chunkOf,
-  onUsb,
   wholeOf,
   bodyOf,
   packetOf,

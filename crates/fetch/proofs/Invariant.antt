@@ -10,13 +10,14 @@ use Rattle.entry.specs.Entry.{entrySize, entryOf, filenameOf}
 use Rattle.filename.specs.Filename.{openedCheck}
 use Rattle.filename.specs.declared.NameCheck.the-variants as N
 use Rattle.packet.specs.Packet.{lengthField}
+use Rattle.verdict.specs.Opening.{onUsb}
 use Rattle.verdict.specs.Verdict.{room}
 use Rattle.verdict.specs.declared.Opening.{Opening}
 use Rattle.session.specs.declared.Filling.{Filling}
 use Rattle.session.specs.declared.Region.{Region}
 use Rattle.session.specs.declared.Phase.{Phase}
 use Rattle.session.specs.declared.Phase.the-variants as P
-use Rattle.session.specs.Step.{Outcome, onUsb}
+use Rattle.session.specs.Step.{Outcome}
 use Rattle.steps.specs.Steps.{one}
 use Rattle.fetch.specs.Plain.{Report, byte, closed, bytesAt, hear, Debugged, emptyIf, chunks, chunkCount, chosen, regions, reportsOf}
 use Rattle.fetch.specs.Device.{Setting, toldBy}

@@ -16,11 +16,11 @@ use Rattle.packet.specs.Packet.{lengthField, badLength}
 use Rattle.build.specs.Build.{bytesOf}
 use Rattle.build.specs.declared.Request.{Request}
 use Rattle.build.specs.declared.Request.the-variants as Q
+use Rattle.verdict.specs.Opening.{chunkOf}
 use Rattle.verdict.specs.Verdict.{verdictOf}
 use Rattle.verdict.specs.declared.Opening.{Opening}
 use Rattle.verdict.specs.declared.Verdict.{Verdict}
 use Rattle.verdict.specs.declared.Verdict.the-variants as W
-use Rattle.session.specs.Step.{chunkOf}
 use Rattle.fetch.specs.Plain.{
   Report,
   sent,

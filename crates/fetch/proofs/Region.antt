@@ -14,6 +14,7 @@ use Rattle.entry.specs.Entry.{entrySize}
 use Rattle.build.specs.Build.{bytesOf, front}
 use Rattle.build.specs.declared.Request.{Request}
 use Rattle.build.specs.declared.Request.the-variants as Q
+use Rattle.verdict.specs.Opening.{chunkOf, onUsb}
 use Rattle.verdict.specs.declared.Opening.{Opening}
 use Rattle.session.specs.declared.Region.{Region}
 use Rattle.session.specs.declared.Phase.the-variants as P
@@ -26,8 +27,6 @@ use Rattle.session.specs.Step.{
   reading,
   region,
   emptied,
-  chunkOf,
-  onUsb,
   dueAfter,
   nextChunk,
   askOf,

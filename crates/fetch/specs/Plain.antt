@@ -12,11 +12,11 @@ use Rattle.selection.specs.Selection.{selected}
 use Rattle.packet.specs.Packet.{lengthField, badLength}
 use Rattle.build.specs.Build.{bytesOf}
 use Rattle.build.specs.declared.Request.the-variants as Q
+use Rattle.verdict.specs.Opening.{chunkOf, onUsb}
 use Rattle.verdict.specs.Verdict.{verdictOf}
 use Rattle.verdict.specs.declared.Opening.{Opening}
 use Rattle.verdict.specs.declared.Verdict.{Verdict}
 use Rattle.verdict.specs.declared.Verdict.the-variants as W
-use Rattle.session.specs.Step.{chunkOf, onUsb}
 
 -- what a host does that can be seen: a packet sent, an image's bytes, a region opened, a byte of it handed out, an empty read, a region closed,
 -- finished with the memory reads

@@ -3,54 +3,21 @@ use build::Request;
 use build::build;
 use copy::copy_into;
 use limits::filling_limit;
-use limits::reads_limit;
 use session::Answer;
 use session::Filling;
 use session::Phase;
 use session::Session;
 use session::Stepped;
+use turn::guard;
+use turn::least;
+use turn::moved;
+use turn::untouched;
 ghost use mathlib.Core.Path.{_≡_};
 ghost use Prim.Native.Nat.{_-_, _≤_, min};
 ghost use lib.ListN.{length};
 ghost use lib.Seq.{paste};
-ghost use Rattle.session.specs.Step.{outcome, gives, inPhase};
+ghost use Rattle.session.specs.Step.{outcome};
 ghost use Rattle.session.specs.Guard.{responseStep, switchedStep, tableStep};
-
-// Refused, the session as it was and nothing taken.
-fn untouched(s: Session, why: u8) -> Stepped
-    ensures { λ r. ⌜ r ≡ gives s 0 (Answer.Refused why) ⌝ }
-{
-    Stepped {
-        session: s,
-        taken: 0,
-        answer: Answer::Refused(why),
-    }
-}
-
-// The session in another phase.
-fn moved(s: Session, phase: Phase, taken: usize, answer: Answer) -> Stepped
-    ensures { λ r. ⌜ r ≡ gives (inPhase s phase) taken answer ⌝ }
-{
-    let opening = s.opening;
-    let window = s.window;
-    Stepped {
-        session: Session {
-            opening,
-            reads: s.reads,
-            window,
-            phase,
-        },
-        taken,
-        answer,
-    }
-}
-
-// The lesser of two numbers.
-fn least(a: usize, b: usize) -> usize
-    ensures { λ r. ⌜ r ≡ min a b ⌝ }
-{
-    if a < b { a } else { b }
-}
 
 // Fills in what the delivery has of the bytes that are missing: how many.
 fn fill(x: Filling, buffer: &mut [u8], delivery: &[u8]) -> usize
@@ -82,14 +49,9 @@ pub fn response_step(
         ≡ responseStep s x (now (delivery .entry)) (now (table .entry)) (now (reply .entry)) (now (out .entry))
         ⌝ }
 {
-    if out.len() < 48 {
-        return untouched(s, 3);
-    }
-    if reads_limit(s.reads) {
-        return untouched(s, 18);
-    }
-    if filling_limit(x, reply) {
-        return untouched(s, 18);
+    let why = guard(s, filling_limit(x, reply), out);
+    if why != 0 {
+        return untouched(s, why);
     }
     let declared = x.declared;
     let n = fill(x, reply, delivery);
@@ -113,17 +75,11 @@ pub fn switched_step(s: Session, k: usize, table: &[u8], reply: &[u8], out: &[u8
         ≡ switchedStep s k (now (table .entry)) (now (reply .entry)) (now (out .entry))
         ⌝ }
 {
-    if out.len() < 48 {
-        return untouched(s, 3);
+    let why = guard(s, reply.len() < k, out);
+    if why != 0 {
+        return untouched(s, why);
     }
-    let reads = s.reads;
-    if reads_limit(reads) {
-        return untouched(s, 18);
-    }
-    if reply.len() < k {
-        return untouched(s, 18);
-    }
-    moved(s, Phase::Ended(k), 0, Answer::Finished(4, reads))
+    moved(s, Phase::Ended(k), 0, Answer::Finished(4, s.reads))
 }
 
 // Bytes of the table; the last of them, and a table without bytes, go on to the regions.
@@ -141,14 +97,9 @@ pub fn table_step(
         ≡ tableStep s x (now (delivery .entry)) (now (table .entry)) (now (reply .entry)) (now (out .entry))
         ⌝ }
 {
-    if out.len() < 48 {
-        return untouched(s, 3);
-    }
-    if reads_limit(s.reads) {
-        return untouched(s, 18);
-    }
-    if filling_limit(x, table) {
-        return untouched(s, 18);
+    let why = guard(s, filling_limit(x, table), out);
+    if why != 0 {
+        return untouched(s, why);
     }
     let declared = x.declared;
     let n = fill(x, table, delivery);

@@ -1,8 +1,11 @@
--- What a session is opened with, and when a step waits for bytes. Document 01, "Session": "Opened with mode, command or none, backend"; "Where bytes are
--- needed, an empty delivery gives go."
-use mathlib.Core.Bool.{Bool, true, false, not}
+-- What a session is opened with, when a step waits for bytes, and for how many. Document 01, "Session": "Opened with mode, command or none, backend";
+-- "Where bytes are needed, an empty delivery gives go."
+use Prim.Native.Nat.{ℕ, _-_}
+use mathlib.Core.Bool.{Bool, true, false}
+use mathlib.Core.List.{List}
 use lib.Dec.{ltb, eqb}
 use Rattle.base.specs.Choice.{pick}
+use Rattle.packet.specs.Packet.{lengthField}
 use Rattle.command.specs.declared.SaharaMode.{SaharaMode}
 use Rattle.verdict.specs.declared.ExecCommand.{ExecCommand}
 use Rattle.verdict.specs.declared.QdlBackend.{QdlBackend}
@@ -10,6 +13,7 @@ use Rattle.verdict.specs.declared.Opening.{Opening}
 use Rattle.session.specs.declared.Region.{Region}
 use Rattle.session.specs.declared.Phase.{Phase}
 use Rattle.session.specs.declared.Phase.the-variants as P
+use Rattle.session.specs.declared.Session.{Session}
 
 abbrev pub opening : SaharaMode → ExecCommand → QdlBackend → Opening
 opening m c b = record { mode = m; command = c; backend = b }
@@ -27,3 +31,23 @@ needsBytes (P.Table x) = ltb (x .filled) (x .declared)
 needsBytes (P.Between k i) = false
 needsBytes (P.Region k x) = regionWaits x
 needsBytes (P.Ended k) = false
+
+-- how many bytes are asked for, as the Rust's reads ask: of a packet its header, then what its length field leaves; what is missing of a response or a
+-- table; what is outstanding of a region. 0 where none are needed, and where more is there than was declared
+abbrev pub packetWants : List ℕ → ℕ → ℕ
+packetWants w h = pick (ltb h 8) (8 - h) (lengthField w - h)
+
+abbrev pub regionWants : Region → ℕ
+regionWants x = pick (x .due) 0 (x .outstanding)
+
+abbrev pub wantedIn : List ℕ → Phase → ℕ
+wantedIn w (P.Packet h) = packetWants w h
+wantedIn w (P.Response x) = x .declared - x .filled
+wantedIn w (P.Switched k) = 0
+wantedIn w (P.Table x) = x .declared - x .filled
+wantedIn w (P.Between k i) = 0
+wantedIn w (P.Region k x) = regionWants x
+wantedIn w (P.Ended k) = 0
+
+abbrev pub wantedOf : Session → ℕ
+wantedOf s = wantedIn (s .window) (s .phase)

@@ -1,25 +1,29 @@
 // The host: a session opened, one step of it, and the channel's end.
+use between_phase::between_step;
 use bundle::Checked;
 use bundle::check_images;
 use bundle::check_names;
 use command::SaharaMode;
-use dump_phase::between_step;
-use dump_phase::region_step;
 use filling_phase::response_step;
 use filling_phase::switched_step;
 use filling_phase::table_step;
+use limits::length_in;
 use packet_phase::packet_step;
+use region_phase::region_step;
 use session::Answer;
 use session::Phase;
 use session::Region;
 use session::Session;
 use session::Stepped;
+use turn::moved;
+use turn::untouched;
 use verdict::ExecCommand;
 use verdict::Opening;
 use verdict::QdlBackend;
 ghost use mathlib.Core.Path.{_≡_};
-ghost use Rattle.session.specs.Step.{openedWith, ended, gives, outcome, stepOf, isEnded, closedOf};
-ghost use Rattle.host.specs.Host.{opening, regionWaits, needsBytes};
+ghost use Prim.Native.Nat.{_-_};
+ghost use Rattle.session.specs.Step.{openedWith, outcome, stepOf, isEnded, closedOf};
+ghost use Rattle.host.specs.Host.{opening, regionWaits, needsBytes, packetWants, regionWants, wantedOf};
 
 // A session, opened with a mode, a command or none, and a backend.
 pub fn open(mode: SaharaMode, command: ExecCommand, backend: QdlBackend) -> Session
@@ -37,17 +41,6 @@ pub fn open(mode: SaharaMode, command: ExecCommand, backend: QdlBackend) -> Sess
     }
 }
 
-// Refused, the session as it was.
-fn refused(s: Session, why: u8) -> Stepped
-    ensures { λ r. ⌜ r ≡ gives s 0 (Answer.Refused why) ⌝ }
-{
-    Stepped {
-        session: s,
-        taken: 0,
-        answer: Answer::Refused(why),
-    }
-}
-
 // One step: a delivery, the image set and the names, and the table, reply and out buffers.
 pub fn step(
     s: Session,
@@ -62,10 +55,10 @@ pub fn step(
         ≡ stepOf s (now (delivery .entry)) (now (set .entry)) (now (names .entry)) (now (table .entry)) (now (reply .entry)) (now (out .entry)) ⌝ }
 {
     let Checked::Good = check_images(set) else {
-        return refused(s, 1);
+        return untouched(s, 1);
     };
     let Checked::Good = check_names(names) else {
-        return refused(s, 2);
+        return untouched(s, 2);
     };
     let p = s.phase;
     match p {
@@ -77,28 +70,10 @@ pub fn step(
         Phase::Region(k, x) => region_step(s, k, x, delivery, table, reply, out),
         Phase::Ended(k) => {
             if out.len() < 48 {
-                return refused(s, 3);
+                return untouched(s, 3);
             }
-            refused(s, 4)
+            untouched(s, 4)
         }
-    }
-}
-
-// The session, ended because the channel was closed.
-fn cut_off(s: Session) -> Stepped
-    ensures { λ r. ⌜ r ≡ gives (ended s) 0 (Answer.Refused 23) ⌝ }
-{
-    let o = s.opening;
-    let w = s.window;
-    Stepped {
-        session: Session {
-            opening: o,
-            reads: s.reads,
-            window: w,
-            phase: Phase::Ended(0),
-        },
-        taken: 0,
-        answer: Answer::Refused(23),
     }
 }
 
@@ -122,9 +97,9 @@ pub fn closed(s: Session) -> Stepped
 {
     let p = s.phase;
     if is_ended(p) {
-        return refused(s, 4);
+        return untouched(s, 4);
     }
-    cut_off(s)
+    moved(s, Phase::Ended(0), 0, Answer::Refused(23))
 }
 
 fn waiting(x: Region) -> bool
@@ -152,5 +127,51 @@ pub fn needs_bytes(s: Session) -> bool
         Phase::Between(_, _) => false,
         Phase::Region(_, x) => waiting(x),
         Phase::Ended(_) => false,
+    }
+}
+
+// What is left of a after b, or 0.
+fn rest(a: usize, b: usize) -> usize
+    ensures { λ r. ⌜ r ≡ a - b ⌝ }
+{
+    if b < a { a - b } else { 0 }
+}
+
+// Of a packet: the header, then what its length field leaves.
+fn packet_wants(window: [u8; 48], held: usize) -> usize
+    ensures { λ r. ⌜ r ≡ packetWants window held ⌝ }
+{
+    if held < 8 {
+        return 8 - held;
+    }
+    let size = length_in(window);
+    rest(size as usize, held)
+}
+
+fn region_wants(x: Region) -> usize
+    ensures { λ r. ⌜ r ≡ regionWants x ⌝ }
+{
+    if x.due {
+        return 0;
+    }
+    x.outstanding as usize
+}
+
+// How many bytes the next step asks for: 0 where it needs none.
+pub fn wanted(s: Session) -> usize
+    ensures { λ r. ⌜ r ≡ wantedOf s ⌝ }
+{
+    let p = s.phase;
+    match p {
+        Phase::Packet(held) => {
+            let window = s.window;
+            packet_wants(window, held)
+        }
+        Phase::Response(x) => rest(x.declared, x.filled),
+        Phase::Switched(_) => 0,
+        Phase::Table(x) => rest(x.declared, x.filled),
+        Phase::Between(_, _) => 0,
+        Phase::Region(_, x) => region_wants(x),
+        Phase::Ended(_) => 0,
     }
 }

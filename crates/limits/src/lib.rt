@@ -1,6 +1,5 @@
 // The limits of a session's counts: refusal 18. Sums are of mathematical integers: none is formed that could wrap.
-use field::Field4;
-use field::u32_at;
+use field::u32_padded;
 use packet::LengthCheck;
 use packet::sahara_read_packet_length;
 use session::Filling;
@@ -24,10 +23,7 @@ pub fn reads_limit(reads: u64) -> bool
 pub fn length_in(window: [u8; 48]) -> u32
     ensures { λ r. ⌜ r ≡ lengthField window ⌝ }
 {
-    match u32_at(&window, 4) {
-        Field4::Is(size) => size,
-        Field4::Short => 0,
-    }
+    u32_padded(&window, 4)
 }
 
 // Held packet bytes above 4,095 or, from the eighth on, not below a length of 8..4096 in their header.

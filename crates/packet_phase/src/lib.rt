@@ -5,7 +5,6 @@ use build::build;
 use copy::copy_into;
 use limits::held_limit;
 use limits::length_in;
-use limits::reads_limit;
 use packet::LengthCheck;
 use packet::sahara_read_packet_length;
 use session::Answer;
@@ -13,21 +12,19 @@ use session::Filling;
 use session::Phase;
 use session::Session;
 use session::Stepped;
+use turn::guard;
+use turn::least;
+use turn::moved;
+use turn::untouched;
 use verdict::Verdict;
 use verdict::judge;
 ghost use mathlib.Core.Path.{_≡_};
 ghost use mathlib.Core.List.{List};
-ghost use Prim.Native.Nat.{ℕ, _-_, _≤_, min};
+ghost use Prim.Native.Nat.{ℕ, _-_, _≤_};
 ghost use lib.ListN.{length};
 ghost use Rattle.build.specs.Build.{sizeOf, front};
-ghost use Rattle.session.specs.Step.{outcome, gives, keep, reading, holding, ended, acted, wholeOf, bodyOf, packetOf};
+ghost use Rattle.session.specs.Step.{outcome, gives, keep, reading, holding, acted, wholeOf, bodyOf, packetOf};
 ghost use Rattle.session.specs.Guard.{packetStep};
-
-fn least(a: usize, b: usize) -> usize
-    ensures { λ r. ⌜ r ≡ min a b ⌝ }
-{
-    if a < b { a } else { b }
-}
 
 // What is left of a after b, or 0.
 fn rest(a: usize, b: usize) -> usize
@@ -56,18 +53,6 @@ fn next(s: Session, reads: u64, w: [u8; 48], phase: Phase) -> Session
         reads: reads,
         window: w,
         phase: phase,
-    }
-}
-
-// The session ended, with this answer.
-fn over(s: Session, taken: usize, answer: Answer) -> Stepped
-    ensures { λ r. ⌜ r ≡ gives (ended s) taken answer ⌝ }
-{
-    let w = s.window;
-    Stepped {
-        session: next(s, s.reads, w, Phase::Ended(0)),
-        taken: taken,
-        answer: answer,
     }
 }
 
@@ -110,7 +95,7 @@ fn act(s: Session, taken: usize, w: [u8; 48], v: Verdict, out: &mut [u8]) -> Ste
         Verdict::Reply(q) => sent(next(s, s.reads, w, Phase::Packet(0)), taken, q, out),
         Verdict::Image(start, k) => holds(s, 0, w, taken, Answer::Image(start, k)),
         Verdict::Pass => holds(s, 0, w, taken, Answer::Go),
-        Verdict::Finish(how) => over(s, taken, Answer::Finished(how, s.reads)),
+        Verdict::Finish(how) => moved(s, Phase::Ended(0), taken, Answer::Finished(how, s.reads)),
         Verdict::Respond(command, k) => {
             let response = Filling {
                 declared: k,
@@ -135,7 +120,7 @@ fn act(s: Session, taken: usize, w: [u8; 48], v: Verdict, out: &mut [u8]) -> Ste
                 out,
             )
         }
-        Verdict::Refused(why) => over(s, taken, Answer::Refused(why)),
+        Verdict::Refused(why) => moved(s, Phase::Ended(0), taken, Answer::Refused(why)),
     }
 }
 
@@ -175,7 +160,7 @@ fn body(
         ≡ bodyOf s held (now (delivery .entry)) size (now (set .entry)) (now (table .entry)) (now (reply .entry)) (now (out .entry)) ⌝ }
 {
     let LengthCheck::Good = sahara_read_packet_length(size) else {
-        return over(s, rest(8, held), Answer::Refused(5));
+        return moved(s, Phase::Ended(0), rest(8, held), Answer::Refused(5));
     };
     let left = rest(size as usize, held);
     let n = least(left, delivery.len());
@@ -223,27 +208,10 @@ pub fn packet_step(
     ensures { λ r. ⌜ outcome r (now (table .entry)) (now (reply .entry)) (now (out .exit))
         ≡ packetStep s held (now (delivery .entry)) (now (set .entry)) (now (table .entry)) (now (reply .entry)) (now (out .entry)) ⌝ }
 {
-    if out.len() < 48 {
-        return Stepped {
-            session: s,
-            taken: 0,
-            answer: Answer::Refused(3),
-        };
-    }
-    if reads_limit(s.reads) {
-        return Stepped {
-            session: s,
-            taken: 0,
-            answer: Answer::Refused(18),
-        };
-    }
     let w = s.window;
-    if held_limit(w, held) {
-        return Stepped {
-            session: s,
-            taken: 0,
-            answer: Answer::Refused(18),
-        };
+    let why = guard(s, held_limit(w, held), out);
+    if why != 0 {
+        return untouched(s, why);
     }
     packet(s, held, delivery, set, table, reply, out)
 }

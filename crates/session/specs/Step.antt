@@ -17,9 +17,8 @@ use Rattle.packet.specs.Packet.{lengthField, badLength}
 use Rattle.build.specs.Build.{sizeOf, front}
 use Rattle.build.specs.declared.Request.{Request}
 use Rattle.build.specs.declared.Request.the-variants as Q
+use Rattle.verdict.specs.Opening.{chunkOf, onUsb}
 use Rattle.verdict.specs.Verdict.{verdictOf}
-use Rattle.verdict.specs.declared.QdlBackend.{QdlBackend}
-use Rattle.verdict.specs.declared.QdlBackend.the-variants as U
 use Rattle.verdict.specs.declared.Opening.{Opening}
 use Rattle.verdict.specs.declared.Verdict.{Verdict}
 use Rattle.verdict.specs.declared.Verdict.the-variants as W
@@ -37,17 +36,6 @@ use Rattle.session.specs.declared.Stepped.{Stepped}
 -- "Opened with mode, command or none, backend": no packet byte is held
 abbrev pub openedWith : Opening → Session
 openedWith u = record { opening = u; reads = 0; window = replicate 48 0; phase = P.Packet 0 }
-
--- the most that one memory read asks for
-unfoldable pub chunkOf : Opening → ℕ
-chunkOf u = 4096
-
-abbrev pub onUsb : Opening → Bool
-onUsb u = go (u .backend)
-  where
-    go : QdlBackend → Bool
-    go U.Serial = false
-    go U.Usb = true
 
 -- a session in another phase; with another count of memory reads; with another window
 abbrev pub inPhase : Session → Phase → Session

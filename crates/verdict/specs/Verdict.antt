@@ -1,7 +1,7 @@
 -- The verdict on one whole packet: 01's term "Packet" among the phases of a session, and the refusals that belong to it. Document 01, "Session",
 -- *Packet*; Refusals, "Step, session ended": 10 kinds 2, 5, 0x0f, 0x11; 11 length not exact; 12, 13; 14 end status not 0; 15 no command; 16 response
--- above the reply buffer; 17 table above 65,536 or its buffer. Where several apply, the first written is given. The step and the plain host share
--- this and nothing else of each other.
+-- above the reply buffer; 17 table above 65,536 or its buffer. Where several apply, the first written is given. Besides the leaves and what an
+-- opening decides (Opening), the step and the plain host share this alone.
 use Prim.Native.Nat.{ℕ, min}
 use mathlib.Core.Bool.{Bool, true, false}
 use mathlib.Core.List.{List}

@@ -1,65 +1,56 @@
--- `filling_phase::table_step` meets its contract: test by test, then what `fill` wrote. Assumes nothing.
+-- `filling_phase::table_step` meets its contract: by the guard's number, then what `fill` wrote. Assumes nothing.
 use mathlib.Core.Path.{_≡_}
-use mathlib.Core.Bool.{true, false}
-use Prim.Native.Nat.{ℕ, _+_, _-_, _<_, _≤_, min}
-use native.Mathlib.Omega.{arith}
 use denote.Ref.{now}
-use lib.ListN.{length}
 use borrow.Author.Tests.{lt-ltb, le-ltb}
-use Rattle.session.specs.Step.{readsLimit, fillingLimit, tableOf}
+use Rattle.session.specs.declared.Phase.the-variants as P
+use Rattle.session.specs.Step.{Outcome, tableOf}
 use Rattle.session.specs.Guard.{tableStep}
-use Rattle.filling_phase.proofs.Laws.{within-limit}
+use Rattle.turn.proofs.Laws.{guard-refused, guard-passed}
+use Rattle.filling_phase.proofs.Laws.{room}
 use borrow.Author.Needs.{needs}
 use Rattle.filling_phase.proofs.table_step.Statement.{statement}
 use Rattle.filling_phase.proofs.table_step.Tie as tie
 
-untouched-requires : tie.Need-untouched-requires
-untouched-requires c κs = search needs
-
-returns : tie.Need-returns
-unfolding tableStep
-returns c =
-    let a = c .before .before .before .before .before .before .args in
-    let h : length (now (a .out)) < 48 = omega arith in
-    simp (lt-ltb _ _ h, c .untouched .ensures)
-
-reads-limit-requires : tie.Need-reads-limit-requires
-reads-limit-requires c κs = search needs
-
-untouched-requires-2 : tie.Need-untouched-requires-2
-untouched-requires-2 c κs = search needs
-
-returns-2 : tie.Need-returns-2
-unfolding tableStep
-returns-2 c =
-    let a = c .before .before .before .before .before .before .before .before .args in
-    let h : 48 ≤ length (now (a .out)) = omega arith in
-    let e : readsLimit (a .s) ≡ true = cc in
-    simp (le-ltb _ _ h, e, c .untouched2 .ensures)
+-- where the function begins, from behind the guard
+abbrev begun : tie.After-guard → tie.Start
+begun g = g .before .before .before .before .before .before .before
 
 filling-limit-requires : tie.Need-filling-limit-requires
 filling-limit-requires c κs = search needs
 
-untouched-requires-3 : tie.Need-untouched-requires-3
-untouched-requires-3 c κs = search needs
+guard-requires : tie.Need-guard-requires
+guard-requires c κs = search needs
+
+untouched-requires : tie.Need-untouched-requires
+untouched-requires c κs = search needs
 
 same-length : tie.Need-same-length
 same-length c = search needs
 
-returns-3 : tie.Need-returns-3
+returns : tie.Need-returns
 unfolding tableStep
-returns-3 c =
-    let a = c .before .before .before .before .before .before .before .before .before .before .before .args in
-    let h : 48 ≤ length (now (a .out)) = omega arith in
-    let e : readsLimit (a .s) ≡ false = cc in
-    let l : fillingLimit (a .x) (now (a .table)) ≡ true = cc in
-    simp (le-ltb _ _ h, e, l, c .untouched3 .ensures)
+returns c =
+    let g = c .before .before in
+    let a = begun g .args in
+    guard-refused (a .s) (P.Table (a .x)) (now (a .table)) (now (a .reply)) (now (a .out)) _ (g .guard .ensures)
+    (g .before .filling-limit .ensures) (c .before .if1 .taken) (c .untouched .ensures)
 
 fill-requires : tie.Need-fill-requires
 fill-requires c κs =
-    let a = c .before .before .before .before .before .before .before .before .before .before .before .args in
-    let l : fillingLimit (a .x) (now (a .table)) ≡ false = cc in
-    within-limit (a .x) (now (a .table)) l
+    let g = c .before .before in
+    let a = begun g .args in
+    room (a .s) (a .x) (now (a .table)) (now (a .out)) (g .guard .ensures) (g .before .filling-limit .ensures) (c .before .if1 .left)
+
+-- behind the guard the step is the phase's
+behind : (c : tie.After-fill) {z : Outcome} → (let a = begun (c .before .before .before) .args in
+    z ≡ tableOf (a .s) (a .x) (now (a .delivery)) (now (a .table)) (now (a .reply)) (now (a .out))
+    → z ≡ tableStep (a .s) (a .x) (now (a .delivery)) (now (a .table)) (now (a .reply)) (now (a .out)))
+unfolding tableStep
+behind c e =
+    let g = c .before .before .before in
+    let a = begun g .args in
+    guard-passed (a .s) (P.Table (a .x)) (now (a .table)) (now (a .reply)) (now (a .out)) _ (g .guard .ensures)
+    (g .before .filling-limit .ensures) (c .before .before .if1 .left) e
 
 add-filled : tie.Need-add-filled
 add-filled c = search needs
@@ -70,18 +61,13 @@ moved-requires c κs = search needs
 same-length-2 : tie.Need-same-length-2
 same-length-2 c = search needs
 
-returns-4 : tie.Need-returns-4
-unfolding tableStep tableOf
-returns-4 c =
-    let p = c .before .before .before .before .before in
-    let a = p .before .before .before .before .before .before .before .before .before .before .before .before .args in
-    let n : ℕ = min (a .x .declared - a .x .filled) (length (now (a .delivery))) in
-    let h : 48 ≤ length (now (a .out)) = omega arith in
-    let e : readsLimit (a .s) ≡ false = cc in
-    let l : fillingLimit (a .x) (now (a .table)) ≡ false = cc in
-    let f = p .fill .ensures in
-    let k : a .x .filled + n < a .x .declared = omega arith in
-    simp (le-ltb _ _ h, e, l, lt-ltb _ _ k, f .1, f .0, c .moved .ensures)
+returns-2 : tie.Need-returns-2
+unfolding tableOf
+returns-2 c =
+    let i = c .before in
+    let f = i .before .before .before .before in
+    let e = f .fill .ensures in
+    behind f (simp (lt-ltb _ _ (rw (e .0) at (i .if2 .taken)), e .1, e .0, c .moved .ensures))
 
 moved-requires-2 : tie.Need-moved-requires-2
 moved-requires-2 c κs = search needs
@@ -89,37 +75,28 @@ moved-requires-2 c κs = search needs
 same-length-3 : tie.Need-same-length-3
 same-length-3 c = search needs
 
-returns-5 : tie.Need-returns-5
-unfolding tableStep tableOf
-returns-5 c =
-    let p = c .before .before .before .before .before in
-    let a = p .before .before .before .before .before .before .before .before .before .before .before .before .args in
-    let n : ℕ = min (a .x .declared - a .x .filled) (length (now (a .delivery))) in
-    let h : 48 ≤ length (now (a .out)) = omega arith in
-    let e : readsLimit (a .s) ≡ false = cc in
-    let l : fillingLimit (a .x) (now (a .table)) ≡ false = cc in
-    let f = p .fill .ensures in
-    let k : a .x .declared ≤ a .x .filled + n = omega arith in
-    simp (le-ltb _ _ h, e, l, le-ltb _ _ k, f .1, f .0, c .moved2 .ensures)
+returns-3 : tie.Need-returns-3
+unfolding tableOf
+returns-3 c =
+    let i = c .before in
+    let f = i .before .before .before .before in
+    let e = f .fill .ensures in
+    behind f (simp (le-ltb _ _ (rw (e .0) at (i .if2 .left)), e .1, e .0, c .moved2 .ensures))
 
 pub table-step-spec : {M : Type 1} → statement M
 table-step-spec =
     tie.close
     (tie.spec
-    untouched-requires
-    returns
-    reads-limit-requires
-    untouched-requires-2
-    returns-2
     filling-limit-requires
-    untouched-requires-3
+    guard-requires
+    untouched-requires
     same-length
-    returns-3
+    returns
     fill-requires
     add-filled
     moved-requires
     same-length-2
-    returns-4
+    returns-2
     moved-requires-2
     same-length-3
-    returns-5)
+    returns-3)

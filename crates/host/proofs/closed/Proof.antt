@@ -10,24 +10,24 @@ use Rattle.host.proofs.closed.Tie as tie
 is-ended-requires : tie.Need-is-ended-requires
 is-ended-requires c κs = search needs
 
-refused-requires : tie.Need-refused-requires
-refused-requires c κs = search needs
+untouched-requires : tie.Need-untouched-requires
+untouched-requires c κs = search needs
 
 returns : tie.Need-returns
 returns c =
     let s = c .before .before .before .args .s in
     let e : isEnded (s .phase) ≡ true = cc in
-    c .refused .ensures ∙ sym (closed-ended s e)
+    c .untouched .ensures ∙ sym (closed-ended s e)
 
-cut-off-requires : tie.Need-cut-off-requires
-cut-off-requires c κs = search needs
+moved-requires : tie.Need-moved-requires
+moved-requires c κs = search needs
 
 returns-2 : tie.Need-returns-2
 returns-2 c =
     let s = c .before .before .before .args .s in
     let e : isEnded (s .phase) ≡ false = cc in
-    c .cut-off .ensures ∙ sym (closed-live s e)
+    c .moved .ensures ∙ sym (closed-live s e)
 
 pub closed-spec : {M : Type 1} → statement M
 closed-spec =
-    tie.close (tie.spec is-ended-requires refused-requires returns cut-off-requires returns-2)
+    tie.close (tie.spec is-ended-requires untouched-requires returns moved-requires returns-2)

@@ -42,8 +42,8 @@ enum-told c = search needs
 enum-told-2 : tie.Need-enum-told-2
 enum-told-2 c = search needs
 
-refused-requires : tie.Need-refused-requires
-refused-requires c κs = search needs
+untouched-requires : tie.Need-untouched-requires
+untouched-requires c κs = search needs
 
 returns : tie.Need-returns
 returns c =
@@ -51,7 +51,7 @@ returns c =
     let B = now (a .set) in
     let w : wellFormed true B ≡ false =
     checked-refused (wellFormed true B) 1 _ (sym (c .before .before .before .check-images .ensures) ∙ c .before .enum-told2 .given .1) in
-    ap (λ (r : Stepped). outcome r (now (a .table)) (now (a .reply)) (now (a .out))) (c .refused .ensures)
+    ap (λ (r : Stepped). outcome r (now (a .table)) (now (a .reply)) (now (a .out))) (c .untouched .ensures)
     ∙ sym (step-1 (a .s) (now (a .delivery)) (now (a .set)) (now (a .names)) (now (a .table)) (now (a .reply)) (now (a .out)) w)
 
 check-names-requires : tie.Need-check-names-requires
@@ -63,8 +63,8 @@ enum-told-3 c = search needs
 enum-told-4 : tie.Need-enum-told-4
 enum-told-4 c = search needs
 
-refused-requires-2 : tie.Need-refused-requires-2
-refused-requires-2 c κs = search needs
+untouched-requires-2 : tie.Need-untouched-requires-2
+untouched-requires-2 c κs = search needs
 
 returns-2 : tie.Need-returns-2
 returns-2 c =
@@ -73,7 +73,7 @@ returns-2 c =
     let e : imagesChecked (now (a .set)) ≡ C.Good = cc in
     let w : wellFormed false B ≡ false =
     checked-refused (wellFormed false B) 2 _ (sym (c .before .before .before .check-names .ensures) ∙ c .before .enum-told4 .given .1) in
-    ap (λ (r : Stepped). outcome r (now (a .table)) (now (a .reply)) (now (a .out))) (c .refused2 .ensures)
+    ap (λ (r : Stepped). outcome r (now (a .table)) (now (a .reply)) (now (a .out))) (c .untouched2 .ensures)
     ∙ sym (step-2 (a .s) (now (a .delivery)) (now (a .set)) (now (a .names)) (now (a .table)) (now (a .reply)) (now (a .out)) (checked-good (wellFormed true (now (a .set))) 1 e) w)
 
 enum-known-p : tie.Need-enum-known-p
@@ -115,8 +115,8 @@ region-step-requires c κs = search needs
 enum-known-p-7 : tie.Need-enum-known-p-7
 enum-known-p-7 c = search needs
 
-refused-requires-3 : tie.Need-refused-requires-3
-refused-requires-3 c κs = search needs
+untouched-requires-3 : tie.Need-untouched-requires-3
+untouched-requires-3 c κs = search needs
 
 returns-3 : tie.Need-returns-3
 returns-3 c =
@@ -124,11 +124,11 @@ returns-3 c =
     let a = begun g .args in
     let l : length (now (a .out)) < 48 = omega arith in
     let e : a .s .phase ≡ P.Ended (c .before .before .before .p7 .given .0 .0) = cc in
-    ap (λ (r : Stepped). outcome r (now (a .table)) (now (a .reply)) (now (a .out))) (c .refused3 .ensures)
+    ap (λ (r : Stepped). outcome r (now (a .table)) (now (a .reply)) (now (a .out))) (c .untouched3 .ensures)
     ∙ sym (by-phase g ∙ ap (phaseStep (a .s) (now (a .delivery)) (now (a .set)) (now (a .names)) (now (a .table)) (now (a .reply)) (now (a .out))) e ∙ simp (lt-ltb _ _ l))
 
-refused-requires-4 : tie.Need-refused-requires-4
-refused-requires-4 c κs = search needs
+untouched-requires-4 : tie.Need-untouched-requires-4
+untouched-requires-4 c κs = search needs
 
 same-length : tie.Need-same-length
 same-length c = search needs
@@ -232,7 +232,7 @@ returns-10 c =
     let a = begun g .args in
     let l : 48 ≤ length (now (a .out)) = omega arith in
     let e : a .s .phase ≡ P.Ended (c .before .before .before .p7 .given .0 .0) = cc in
-    ap (λ (r : Stepped). outcome r (now (a .table)) (now (a .reply)) (now (a .out))) (c .refused4 .ensures)
+    ap (λ (r : Stepped). outcome r (now (a .table)) (now (a .reply)) (now (a .out))) (c .untouched4 .ensures)
     ∙ sym (by-phase g ∙ ap (phaseStep (a .s) (now (a .delivery)) (now (a .set)) (now (a .names)) (now (a .table)) (now (a .reply)) (now (a .out))) e ∙ simp (le-ltb _ _ l))
 
 pub step-spec : {M : Type 1} → statement M
@@ -242,12 +242,12 @@ step-spec =
     check-images-requires
     enum-told
     enum-told-2
-    refused-requires
+    untouched-requires
     returns
     check-names-requires
     enum-told-3
     enum-told-4
-    refused-requires-2
+    untouched-requires-2
     returns-2
     enum-known-p
     packet-step-requires
@@ -262,9 +262,9 @@ step-spec =
     enum-known-p-6
     region-step-requires
     enum-known-p-7
-    refused-requires-3
+    untouched-requires-3
     returns-3
-    refused-requires-4
+    untouched-requires-4
     same-length
     same-length-2
     same-length-3

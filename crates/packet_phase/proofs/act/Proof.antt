@@ -1,6 +1,5 @@
 -- `packet_phase::act` meets its contract: by the verdict, each case by what its callees ensure. Assumes nothing.
-use mathlib.Core.Path.{_≡_, refl}
-use Rattle.verdict.specs.declared.Verdict.the-variants as W
+use mathlib.Core.Path.{refl}
 use borrow.Author.Needs.{needs}
 use Rattle.packet_phase.proofs.act.Statement.{statement}
 use Rattle.packet_phase.proofs.act.Tie as tie
@@ -29,8 +28,8 @@ holds-requires-2 c κs = search needs
 enum-known-v-3 : tie.Need-enum-known-v-3
 enum-known-v-3 c = search needs
 
-over-requires : tie.Need-over-requires
-over-requires c κs = search needs
+moved-requires : tie.Need-moved-requires
+moved-requires c κs = search needs
 
 enum-known-v-4 : tie.Need-enum-known-v-4
 enum-known-v-4 c = search needs
@@ -53,8 +52,8 @@ sent-requires-3 c κs = search needs
 enum-known-v-6 : tie.Need-enum-known-v-6
 enum-known-v-6 c = search needs
 
-over-requires-2 : tie.Need-over-requires-2
-over-requires-2 c κs = search needs
+moved-requires-2 : tie.Need-moved-requires-2
+moved-requires-2 c κs = search needs
 
 same-length : tie.Need-same-length
 same-length c = search needs
@@ -63,28 +62,23 @@ returns : tie.Need-returns
 returns c =
     λ t y.
     let m = c .before .before .before .before .before .before in
-    let e : m .before .before .before .args .v ≡ W.Reply (m .v .given .0 .0) = cc in
     let r = c .before .before .sent .ensures in
-    rw (e, r .0, r .1, c .before .before .before .before .next .ensures) refl
+    rw (m .v .given .1, r .0, r .1, c .before .before .before .before .next .ensures) refl
 
 returns-2 : tie.Need-returns-2
 returns-2 c =
     λ t y.
-    let m = c .before .before in
-    let e : m .before .before .before .args .v ≡ W.Image (m .v2 .given .0 .0) (m .v2 .given .0 .1 .0) = cc in
-    rw (e, c .holds .ensures) refl
+    rw (c .before .before .v2 .given .1, c .holds .ensures) refl
 
 returns-3 : tie.Need-returns-3
 returns-3 c =
     λ t y.
-    let e : c .before .before .before .before .args .v ≡ W.Pass = cc in
-    rw (e, c .holds2 .ensures) refl
+    rw (c .before .enum-told .given .1, c .holds2 .ensures) refl
 
 returns-4 : tie.Need-returns-4
 returns-4 c =
     λ t y.
-    let e : c .before .before .before .before .before .args .v ≡ W.Finish (c .before .before .v3 .given .0 .0) = cc in
-    rw (e, c .over .ensures) refl
+    rw (c .before .before .v3 .given .1, c .moved .ensures) refl
 
 same-length-2 : tie.Need-same-length-2
 same-length-2 c = search needs
@@ -93,9 +87,8 @@ returns-5 : tie.Need-returns-5
 returns-5 c =
     λ t y.
     let m = c .before .before .before .before .before .before in
-    let e : m .before .before .before .args .v ≡ W.Respond (m .v4 .given .0 .0) (m .v4 .given .0 .1 .0) = cc in
     let r = c .before .before .sent2 .ensures in
-    rw (e, r .0, r .1, c .before .before .before .before .next2 .ensures) refl
+    rw (m .v4 .given .1, r .0, r .1, c .before .before .before .before .next2 .ensures) refl
 
 same-length-3 : tie.Need-same-length-3
 same-length-3 c = search needs
@@ -104,15 +97,13 @@ returns-6 : tie.Need-returns-6
 returns-6 c =
     λ t y.
     let m = c .before .before .before .before .before .before in
-    let e : m .before .before .before .args .v ≡ W.Debug (m .v5 .given .0 .0) (m .v5 .given .0 .1 .0) = cc in
     let r = c .before .before .sent3 .ensures in
-    rw (e, r .0, r .1, c .before .before .before .before .next3 .ensures) refl
+    rw (m .v5 .given .1, r .0, r .1, c .before .before .before .before .next3 .ensures) refl
 
 returns-7 : tie.Need-returns-7
 returns-7 c =
     λ t y.
-    let e : c .before .before .before .before .before .args .v ≡ W.Refused (c .before .before .v6 .given .0 .0) = cc in
-    rw (e, c .over2 .ensures) refl
+    rw (c .before .before .v6 .given .1, c .moved2 .ensures) refl
 
 pub act-spec : {M : Type 1} → statement M
 act-spec =
@@ -126,7 +117,7 @@ act-spec =
     enum-told
     holds-requires-2
     enum-known-v-3
-    over-requires
+    moved-requires
     enum-known-v-4
     next-requires-2
     sent-requires-2
@@ -134,7 +125,7 @@ act-spec =
     next-requires-3
     sent-requires-3
     enum-known-v-6
-    over-requires-2
+    moved-requires-2
     same-length
     returns
     returns-2

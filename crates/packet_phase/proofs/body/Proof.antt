@@ -1,5 +1,6 @@
 -- `packet_phase::body` meets its contract: by the answer about the length, then by what is left of the packet. Assumes nothing.
 use mathlib.Core.Path.{_≡_, sym, _∙_}
+use mathlib.Core.Bool.{false}
 use mathlib.Core.List.{List}
 use Prim.Native.Nat.{ℕ, _+_, _-_, _<_, _≤_, min}
 use native.Mathlib.Omega.{arith}
@@ -7,13 +8,19 @@ use denote.Ref.{now}
 use borrow.Author.Tests.{lt-ltb, le-ltb}
 use lib.ListN.{length}
 use lib.Seq.{length-take-le}
-use Rattle.packet.specs.Packet.{badLength, lengthChecked}
-use Rattle.packet.specs.declared.LengthCheck.the-variants as L
+use Rattle.packet.specs.Packet.{badLength}
 use Rattle.session.specs.Step.{bodyOf}
 use Rattle.limits.proofs.Laws.{good-length, refused-length}
 use borrow.Author.Needs.{needs}
 use Rattle.packet_phase.proofs.body.Statement.{statement}
 use Rattle.packet_phase.proofs.body.Tie as tie
+
+-- the length that was checked is good
+good : (c : tie.After-enum-told) → badLength (c .before .before .before .before .before .before .before .before .args .size) ≡ false
+good c =
+    let r = c .before .before in
+    let a = r .before .before .before .before .before .before .args in
+    good-length (badLength (a .size)) (sym (r .sahara-read-packet-length .ensures) ∙ c .enum-told .given .1)
 
 sahara-read-packet-length-requires : tie.Need-sahara-read-packet-length-requires
 sahara-read-packet-length-requires c κs = search needs
@@ -27,15 +34,17 @@ enum-told-2 c = search needs
 rest-requires : tie.Need-rest-requires
 rest-requires c κs = search needs
 
-over-requires : tie.Need-over-requires
-over-requires c κs = search needs
+moved-requires : tie.Need-moved-requires
+moved-requires c κs = search needs
 
 returns : tie.Need-returns
 unfolding bodyOf
 returns c =
-    let a = c .before .before .before .before .before .before .before .before .before .before .args in
-    let e : lengthChecked (a .size) ≡ L.Refused (c .before .before .enum-told2 .given .0 .0) = cc in
-    simp (refused-length (badLength (a .size)) _ e, c .over .ensures, c .before .rest .ensures)
+    let k = c .before .before in
+    let r = k .before .before in
+    let a = r .before .before .before .before .before .before .args in
+    let b = refused-length (badLength (a .size)) _ (sym (r .sahara-read-packet-length .ensures) ∙ k .enum-told2 .given .1) in
+    simp (b, c .moved .ensures, c .before .rest .ensures)
 
 rest-requires-2 : tie.Need-rest-requires-2
 rest-requires-2 c κs = search needs
@@ -65,10 +74,9 @@ returns-2 c =
     let m = k .before .before .before in
     let a = m .before .before .before .before .before .before .before .before .before .before .args in
     let d : List ℕ = now (a .delivery) in
-    let e : lengthChecked (a .size) ≡ L.Good = cc in
     let n : m .least .result ≡ min (a .size - a .held) (length d) = omega (arith, m .least .ensures, m .before .rest2 .ensures) in
     let l : a .held + min (a .size - a .held) (length d) < a .size = omega (arith, c .before .if1 .taken, m .before .rest2 .ensures) in
-    simp (good-length (badLength (a .size)) e, lt-ltb _ _ l, c .holds .ensures, k .kept .ensures, n)
+    simp (good (m .before .before), lt-ltb _ _ l, c .holds .ensures, k .kept .ensures, n)
 
 whole-requires : tie.Need-whole-requires
 whole-requires c κs = search needs
@@ -84,10 +92,9 @@ returns-3 c =
     let m = k .before .before .before in
     let a = m .before .before .before .before .before .before .before .before .before .before .args in
     let d : List ℕ = now (a .delivery) in
-    let e : lengthChecked (a .size) ≡ L.Good = cc in
     let n : m .least .result ≡ min (a .size - a .held) (length d) = omega (arith, m .least .ensures, m .before .rest2 .ensures) in
     let l : a .size ≤ a .held + min (a .size - a .held) (length d) = omega (arith, i .if1 .left, m .before .rest2 .ensures) in
-    c .before .before .whole .ensures ∙ simp (good-length (badLength (a .size)) e, le-ltb _ _ l, k .kept .ensures, n)
+    c .before .before .whole .ensures ∙ simp (good (m .before .before), le-ltb _ _ l, k .kept .ensures, n)
 
 pub body-spec : {M : Type 1} → statement M
 body-spec =
@@ -97,7 +104,7 @@ body-spec =
     enum-told
     enum-told-2
     rest-requires
-    over-requires
+    moved-requires
     returns
     rest-requires-2
     least-requires

@@ -1,69 +1,61 @@
--- `packet_phase::packet_step` meets its contract: by the tests of 3 and 18. Assumes nothing.
-use mathlib.Core.Path.{_≡_, _∙_}
-use mathlib.Core.Bool.{true, false}
-use Prim.Native.Nat.{_≤_}
-use native.Mathlib.Omega.{arith}
+-- `packet_phase::packet_step` meets its contract: by the guard's number. Assumes nothing.
 use denote.Ref.{now}
-use borrow.Author.Tests.{lt-ltb, le-ltb}
-use lib.ListN.{length}
+use Rattle.session.specs.declared.Phase.the-variants as P
 use Rattle.session.specs.Guard.{packetStep}
-use Rattle.session.specs.Step.{readsLimit, heldLimit}
+use Rattle.turn.proofs.Laws.{passed, guard-refused, guard-passed}
 use borrow.Author.Needs.{needs}
 use Rattle.packet_phase.proofs.packet_step.Statement.{statement}
 use Rattle.packet_phase.proofs.packet_step.Tie as tie
 
-returns : tie.Need-returns
-unfolding packetStep
-returns c =
-    simp (lt-ltb _ _ (c .if1 .taken))
-
-reads-limit-requires : tie.Need-reads-limit-requires
-reads-limit-requires c κs = search needs
-
-returns-2 : tie.Need-returns-2
-unfolding packetStep
-returns-2 c =
-    let a = c .before .before .before .before .before .before .before .before .args in
-    let l : 48 ≤ length (now (a .out)) = omega (arith, c .before .before .if1 .left) in
-    let r : readsLimit (a .s) ≡ true = cc in
-    simp (le-ltb _ _ l, r)
-
 held-limit-requires : tie.Need-held-limit-requires
 held-limit-requires c κs = search needs
 
-returns-3 : tie.Need-returns-3
-unfolding packetStep
-returns-3 c =
-    let a = c .before .before .before .before .before .before .before .before .before .before .before .args in
-    let l : 48 ≤ length (now (a .out)) = omega (arith, c .before .before .before .before .before .if1 .left) in
-    let r : readsLimit (a .s) ≡ false = cc in
-    let h : heldLimit (a .s .window) (a .held) ≡ true = cc in
-    simp (le-ltb _ _ l, r, h)
+guard-requires : tie.Need-guard-requires
+guard-requires c κs = search needs
 
-packet-requires : tie.Need-packet-requires
-packet-requires c κs = search needs
+untouched-requires : tie.Need-untouched-requires
+untouched-requires c κs = search needs
 
 same-length : tie.Need-same-length
 same-length c = search needs
 
-returns-4 : tie.Need-returns-4
+returns : tie.Need-returns
 unfolding packetStep
-returns-4 c =
-    let a = c .before .before .before .before .before .before .before .before .before .before .before .before .before .before .before .args in
-    let l : 48 ≤ length (now (a .out)) = omega (arith, c .before .before .before .before .before .before .before .before .before .if1 .left) in
-    let r : readsLimit (a .s) ≡ false = cc in
-    let h : heldLimit (a .s .window) (a .held) ≡ false = cc in
-    c .before .before .packet .ensures ∙ simp (le-ltb _ _ l, r, h)
+returns c =
+    let g = c .before .before in
+    let b = g .before .before in
+    let a = b .before .before .before .before .before .before .before .args in
+    guard-refused (a .s) (P.Packet (a .held)) (now (a .table)) (now (a .reply)) (now (a .out)) _ (g .guard .ensures) (b .held-limit .ensures)
+    (c .before .if1 .taken) (c .untouched .ensures)
+
+packet-requires : tie.Need-packet-requires
+packet-requires c κs =
+    let g = c .before .before in
+    let a = g .before .before .before .before .before .before .before .before .before .args in
+    passed (a .s) _ (now (a .out)) (g .guard .ensures) (c .before .if1 .left) .room
+
+same-length-2 : tie.Need-same-length-2
+same-length-2 c = search needs
+
+returns-2 : tie.Need-returns-2
+unfolding packetStep
+returns-2 c =
+    let q = c .before .before in
+    let g = q .before .before .before in
+    let b = g .before .before in
+    let a = b .before .before .before .before .before .before .before .args in
+    guard-passed (a .s) (P.Packet (a .held)) (now (a .table)) (now (a .reply)) (now (a .out)) _ (g .guard .ensures) (b .held-limit .ensures)
+    (q .before .before .if1 .left) (q .packet .ensures)
 
 pub packet-step-spec : {M : Type 1} → statement M
 packet-step-spec =
     tie.close
     (tie.spec
-    returns
-    reads-limit-requires
-    returns-2
     held-limit-requires
-    returns-3
-    packet-requires
+    guard-requires
+    untouched-requires
     same-length
-    returns-4)
+    returns
+    packet-requires
+    same-length-2
+    returns-2)

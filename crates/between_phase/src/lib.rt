@@ -1,0 +1,80 @@
+// The phase between the regions of a dump: the next selected entry is opened, or the dump is over.
+use entry::entry_at;
+use filename::NameCheck;
+use filename::check_opening;
+use limits::between_limit;
+use selection::next_selected;
+use session::Answer;
+use session::Phase;
+use session::Region;
+use session::Session;
+use session::Stepped;
+use turn::guard;
+use turn::moved;
+use turn::untouched;
+ghost use mathlib.Core.Path.{_≡_};
+ghost use mathlib.Core.Bool.{true};
+ghost use Prim.Native.Nat.{_≤_};
+ghost use lib.ListN.{length};
+ghost use Rattle.entry.specs.Entry.{entryOf, filenameOf, there};
+ghost use Rattle.filename.specs.Filename.{openingCheck};
+ghost use Rattle.session.specs.Step.{outcome, openingOf, betweenOf};
+ghost use Rattle.session.specs.Guard.{betweenStep};
+
+// Entry i of the table is opened by its name: 19, 20.
+fn open_region(s: Session, k: usize, i: usize, table: &[u8]) -> Stepped
+    requires { ⌜ there 8 (now table) i ≡ true ⌝ }
+    ensures { λ r. ⌜ r ≡ openingOf 8 s k i (entryOf 8 (now (table .entry)) i) (openingCheck (filenameOf 8 (entryOf 8 (now (table .entry)) i))) ⌝ }
+{
+    let at = entry_at(table, i);
+    let entry = at.entry;
+    let name = entry.filename;
+    let check = check_opening(&name);
+    match check {
+        NameCheck::Refused(why) => moved(s, Phase::Ended(0), 0, Answer::Refused(why)),
+        NameCheck::Good => {
+            let x = Region {
+                entry: i,
+                base: entry.base,
+                len: entry.len,
+                done: 0,
+                outstanding: 0,
+                due: false,
+            };
+            moved(s, Phase::Region(k, x), 0, Answer::Open(i))
+        }
+    }
+}
+
+// The next selected entry is opened, or the dump is over.
+fn next_region(s: Session, k: usize, from: usize, names: &[u8], table: &[u8]) -> Stepped
+    requires { ⌜ k ≤ length (now table) ⌝ }
+    ensures { λ r. ⌜ r ≡ betweenOf 8 s k from (now (names .entry)) (now (table .entry)) ⌝ }
+{
+    let entries = k / 64;
+    let i = next_selected(table, entries, names, from);
+    if entries <= i {
+        return moved(s, Phase::Ended(0), 0, Answer::Finished(3, s.reads));
+    }
+    open_region(s, k, i, table)
+}
+
+// A step between regions: k is the table's length, i the entry to go on from.
+pub fn between_step(
+    s: Session,
+    k: usize,
+    i: usize,
+    names: &[u8],
+    table: &[u8],
+    reply: &[u8],
+    out: &[u8],
+) -> Stepped
+    ensures { λ r. ⌜ outcome r (now (table .entry)) (now (reply .entry)) (now (out .entry))
+        ≡ betweenStep s k i (now (names .entry)) (now (table .entry)) (now (reply .entry)) (now (out .entry)) ⌝ }
+{
+    let why = guard(s, between_limit(k, i, table), out);
+    if why != 0 {
+        return untouched(s, why);
+    }
+    next_region(s, k, i, names, table)
+}

@@ -1,0 +1,24 @@
+-- `raw::is_exec` meets its contract: by what the number names. Assumes nothing.
+use mathlib.Core.Path.{sym, ap, _∙_}
+use Rattle.raw.specs.Raw.{execNamed}
+use borrow.Author.Needs.{needs}
+use Rattle.raw.proofs.is_exec.Statement.{statement}
+use Rattle.raw.proofs.is_exec.Tie as tie
+
+command-of-requires : tie.Need-command-of-requires
+command-of-requires c κs = search needs
+
+enum-told : tie.Need-enum-told
+enum-told c = search needs
+
+enum-told-2 : tie.Need-enum-told-2
+enum-told-2 c = search needs
+
+returns : tie.Need-returns
+returns c = sym (ap (execNamed _) (sym (c .before .before .command-of .ensures) ∙ c .enum-told .given .1))
+
+returns-2 : tie.Need-returns-2
+returns-2 c = sym (ap (execNamed _) (sym (c .before .before .command-of .ensures) ∙ c .enum-told2 .given .1))
+
+pub is-exec-spec : {M : Type 1} → statement M
+is-exec-spec = tie.close (tie.spec command-of-requires enum-told enum-told-2 returns returns-2)

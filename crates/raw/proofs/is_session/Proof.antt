@@ -1,0 +1,24 @@
+-- `raw::is_session` meets its contract: each test by its law. Assumes nothing.
+use mathlib.Core.Path.{sym, _∙_}
+use borrow.Author.Tests.{not-true, not-false}
+use Rattle.raw.proofs.Tests.{unopened, by-phase}
+use borrow.Author.Needs.{needs}
+use Rattle.raw.proofs.is_session.Statement.{statement}
+use Rattle.raw.proofs.is_session.Tie as tie
+
+is-opening-requires : tie.Need-is-opening-requires
+is-opening-requires c κs = search needs
+
+returns : tie.Need-returns
+returns c = unopened (c .before .before .args .r) (sym (c .before .is-opening .ensures) ∙ not-true _ (c .if1 .taken))
+
+is-phase-requires : tie.Need-is-phase-requires
+is-phase-requires c κs = search needs
+
+returns-2 : tie.Need-returns-2
+returns-2 c =
+    c .is-phase .ensures
+    ∙ by-phase (c .before .before .before .args .r) (sym (c .before .before .is-opening .ensures) ∙ not-false _ (c .before .if1 .left))
+
+pub is-session-spec : {M : Type 1} → statement M
+is-session-spec = tie.close (tie.spec is-opening-requires returns is-phase-requires returns-2)

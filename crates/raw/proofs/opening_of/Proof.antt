@@ -1,0 +1,33 @@
+-- `raw::opening_of` meets its contract: field by field. Assumes nothing.
+use borrow.Author.Needs.{needs}
+use Rattle.raw.proofs.opening_of.Statement.{statement}
+use Rattle.raw.proofs.opening_of.Tie as tie
+
+mode-of-requires : tie.Need-mode-of-requires
+mode-of-requires c κs = search needs
+
+mode-in-requires : tie.Need-mode-in-requires
+mode-in-requires c κs = search needs
+
+command-of-requires : tie.Need-command-of-requires
+command-of-requires c κs = search needs
+
+exec-in-requires : tie.Need-exec-in-requires
+exec-in-requires c κs = search needs
+
+backend-of-requires : tie.Need-backend-of-requires
+backend-of-requires c κs = search needs
+
+returns : tie.Need-returns
+returns c = cc
+
+pub opening-of-spec : {M : Type 1} → statement M
+opening-of-spec =
+    tie.close
+    (tie.spec
+    mode-of-requires
+    mode-in-requires
+    command-of-requires
+    exec-in-requires
+    backend-of-requires
+    returns)

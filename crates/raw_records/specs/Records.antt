@@ -1,0 +1,37 @@
+-- A table entry, an image range, a check and a built packet as plain numbers, as they cross to C and Rust. Where something is refused, `refused` is its
+-- number in document 01, "Refusals", and every other number is 0; no refusal has the number 0.
+use Prim.Native.Nat.{ℕ}
+use Rattle.base.specs.Choice.{pick}
+use Rattle.bundle.specs.declared.Checked.{Checked}
+use Rattle.bundle.specs.declared.Checked.the-variants as C
+use Rattle.build.specs.declared.Built.{Built}
+use Rattle.build.specs.declared.Built.the-variants as T
+use Rattle.entry.specs.declared.EntryAt.{EntryAt}
+use Rattle.image.specs.declared.ImageRange.{ImageRange}
+use Rattle.image.specs.declared.ImageRange.the-variants as R
+use Rattle.raw_records.specs.declared.RawEntry.{RawEntry}
+use Rattle.raw_records.specs.declared.RawRange.{RawRange}
+
+-- an entry; `there` is 0 beside an entry of zeros where the table has none
+abbrev pub rawEntry : EntryAt → RawEntry
+rawEntry e =
+    record {
+      «save_pref» = e .entry .«save_pref»;
+      base = e .entry .base;
+      len = e .entry .len;
+      description = e .entry .description;
+      filename = e .entry .filename;
+      there = pick (e .there) 1 0;
+    }
+
+abbrev pub rawRange : ImageRange → RawRange
+rawRange (R.At start len) = record { start = start; len = len; refused = 0 }
+rawRange (R.Refused why) = record { start = 0; len = 0; refused = why }
+
+abbrev pub checkedNumber : Checked → ℕ
+checkedNumber C.Good = 0
+checkedNumber (C.Refused why) = why
+
+abbrev pub builtNumber : Built → ℕ
+builtNumber (T.Send k) = 0
+builtNumber (T.Refused why) = why

@@ -1,0 +1,110 @@
+-- `region_phase::begin_region` meets its contract: the name that was tested is the entry's, and each way is the definition's.
+-- Assumes nothing.
+use mathlib.Core.Path.{_≡_, ap, sym, _∙_}
+use mathlib.Core.Bool.{true, false}
+use Prim.Native.Nat.{_+_, _^_}
+use native.Mathlib.Omega.{arith}
+use lib.Dec.{ltb}
+use denote.Ref.{now}
+use borrow.Author.Tests.{ltb-false}
+use Rattle.entry.specs.Entry.{entryOf, filenameOf}
+use Rattle.entry.specs.declared.RamdumpTable64.{RamdumpTable64}
+use Rattle.entry.proofs.Laws.{there-fits}
+use Rattle.filename.specs.Filename.{openedCheck}
+use Rattle.turn.proofs.Laws.{told}
+use borrow.Author.Needs.{needs}
+use Rattle.region_phase.proofs.begin_region.Statement.{statement}
+use Rattle.region_phase.proofs.begin_region.Tie as tie
+
+-- where the function begins, from behind the test of the name
+abbrev begun : tie.After-check-opened → tie.Start
+begun c = c .before .before .before .before .before .before .before
+
+-- there the name that was tested is the entry's
+tested : (c : tie.After-check-opened) → (let a = begun c .args in
+    c .check-opened .result ≡ openedCheck (filenameOf 8 (entryOf 8 (now (a .table)) (a .x .entry))))
+tested c =
+    let a = begun c .args in
+    c .check-opened .ensures
+    ∙ ap (λ (e : RamdumpTable64). openedCheck (e .filename))
+    (told 8 (now (a .table)) (a .x .entry) (c .before .before .before .before .entry-at .ensures) (begun c .pre .1))
+
+entry-at-requires : tie.Need-entry-at-requires
+entry-at-requires c κs = search needs
+
+slice-aggregate-check-opened : tie.Need-slice-aggregate-check-opened
+slice-aggregate-check-opened c = search needs
+
+check-opened-requires : tie.Need-check-opened-requires
+check-opened-requires c κs = search needs
+
+enum-known-check : tie.Need-enum-known-check
+enum-known-check c = search needs
+
+moved-requires : tie.Need-moved-requires
+moved-requires c κs = search needs
+
+returns : tie.Need-returns
+returns c =
+    λ y.
+    let k = c .before .before .before .before in
+    simp (sym (tested k) ∙ c .before .before .check .given .1, c .moved .ensures)
+
+enum-told : tie.Need-enum-told
+enum-told c = search needs
+
+past-memory-requires : tie.Need-past-memory-requires
+past-memory-requires c κs = search needs
+
+moved-requires-2 : tie.Need-moved-requires-2
+moved-requires-2 c κs = search needs
+
+returns-2 : tie.Need-returns-2
+returns-2 c =
+    λ y.
+    let m = c .before .before in
+    let k = m .before .before .before in
+    let a = begun k .args in
+    let z : ltb (256 ^ 8) (a .x .base + a .x .len) ≡ true = sym (m .past-memory .ensures) ∙ c .before .if1 .taken in
+    simp (sym (tested k) ∙ m .before .enum-told .given .1, z, c .moved2 .ensures)
+
+next-chunk-requires : tie.Need-next-chunk-requires
+next-chunk-requires c κs =
+    let m = c .before .before in
+    let b = begun (m .before .before .before) in
+    let a = b .args in
+    let l = ltb-false (256 ^ 8) (a .x .base + a .x .len) (sym (m .past-memory .ensures) ∙ c .before .if1 .left) in
+    let h = there-fits 8 (now (a .table)) (a .x .entry) (b .pre .1) in
+    omega arith
+
+same-length : tie.Need-same-length
+same-length c = search needs
+
+returns-3 : tie.Need-returns-3
+returns-3 c =
+    λ y.
+    let n = c .before .before in
+    let i = n .before .before in
+    let m = i .before in
+    let k = m .before .before .before in
+    let a = begun k .args in
+    let z : ltb (256 ^ 8) (a .x .base + a .x .len) ≡ false = sym (m .past-memory .ensures) ∙ i .if1 .left in
+    simp (sym (tested k) ∙ m .before .enum-told .given .1, z) (n .next-chunk .ensures (now (a .table)) y)
+
+pub begin-region-spec : {M : Type 1} → statement M
+begin-region-spec =
+    tie.close
+    (tie.spec
+    entry-at-requires
+    slice-aggregate-check-opened
+    check-opened-requires
+    enum-known-check
+    moved-requires
+    returns
+    enum-told
+    past-memory-requires
+    moved-requires-2
+    returns-2
+    next-chunk-requires
+    same-length
+    returns-3)

@@ -1,0 +1,58 @@
+-- The functions over numbers by whether they are a session's; and for the numbers of a session they are the functions over sessions. Assumes nothing.
+use mathlib.Core.Path.{_≡_, refl}
+use mathlib.Core.Bool.{true, false}
+use mathlib.Core.List.{List}
+use Prim.Native.Nat.{ℕ}
+use Rattle.session.specs.declared.Session.{Session}
+use Rattle.session.specs.Step.{stepOf, closedOf}
+use Rattle.host.specs.Host.{wantedOf}
+use Rattle.raw.specs.declared.RawSession.{RawSession}
+use Rattle.raw.specs.Raw.{rawOf, sessionOf, isSession, rawStepped, noSession}
+use Rattle.raw.proofs.Laws.{session-back, session-is}
+use Rattle.worgesli.specs.Worgesli.{rawOutcome, told, stepRaw, closedRaw, wantedRaw}
+
+module _ (r : RawSession) (d set names t y o : List ℕ) where
+  pub step-no : isSession r ≡ false → rawOutcome (noSession r) t y o ≡ stepRaw r d set names t y o
+  unfolding stepRaw
+  step-no e = rw e refl
+
+  pub step-is : isSession r ≡ true → told (stepOf (sessionOf r) d set names t y o) ≡ stepRaw r d set names t y o
+  unfolding stepRaw
+  step-is e = rw e refl
+
+pub closed-no : (r : RawSession) → isSession r ≡ false → noSession r ≡ closedRaw r
+unfolding closedRaw
+closed-no r e = rw e refl
+
+pub closed-is : (r : RawSession) → isSession r ≡ true → rawStepped (closedOf (sessionOf r)) ≡ closedRaw r
+unfolding closedRaw
+closed-is r e = rw e refl
+
+pub wanted-no : (r : RawSession) → isSession r ≡ false → 0 ≡ wantedRaw r
+unfolding wantedRaw
+wanted-no r e = rw e refl
+
+pub wanted-is : (r : RawSession) → isSession r ≡ true → wantedOf (sessionOf r) ≡ wantedRaw r
+unfolding wantedRaw
+wanted-is r e = rw e refl
+
+-- ---- of a session's numbers: what the session does, told as numbers
+
+pub step-told : (s : Session) (d set names t y o : List ℕ) → stepRaw (rawOf s) d set names t y o ≡ told (stepOf s d set names t y o)
+step-told s d set names t y o = rw (← step-is (rawOf s) d set names t y o (session-is s), session-back s) refl
+
+pub closed-told : (s : Session) → closedRaw (rawOf s) ≡ rawStepped (closedOf s)
+closed-told s = rw (← closed-is (rawOf s) (session-is s), session-back s) refl
+
+pub wanted-told : (s : Session) → wantedRaw (rawOf s) ≡ wantedOf s
+wanted-told s = rw (← wanted-is (rawOf s) (session-is s), session-back s) refl
+
+-- ---- what is given back for a session is a session
+
+pub step-keeps : (r : RawSession) (d set names t y o : List ℕ) → isSession r ≡ true → isSession (stepRaw r d set names t y o .stepped .session) ≡ true
+unfolding rawStepped
+step-keeps r d set names t y o e = rw (← step-is r d set names t y o e) (session-is (stepOf (sessionOf r) d set names t y o .stepped .session))
+
+pub closed-keeps : (r : RawSession) → isSession r ≡ true → isSession (closedRaw r .session) ≡ true
+unfolding rawStepped
+closed-keeps r e = rw (← closed-is r e) (session-is (closedOf (sessionOf r) .session))

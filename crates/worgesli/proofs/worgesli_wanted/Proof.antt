@@ -1,0 +1,30 @@
+-- `worgesli_wanted` meets its contract: by whether the numbers are a session's. Assumes nothing.
+use mathlib.Core.Path.{sym, ap, _∙_}
+use borrow.Author.Tests.{not-true, not-false}
+use Rattle.host.specs.Host.{wantedOf}
+use Rattle.worgesli.proofs.Laws.{wanted-no, wanted-is}
+use borrow.Author.Needs.{needs}
+use Rattle.worgesli.proofs.worgesli_wanted.Statement.{statement}
+use Rattle.worgesli.proofs.worgesli_wanted.Tie as tie
+
+is-session-requires : tie.Need-is-session-requires
+is-session-requires c κs = search needs
+
+returns : tie.Need-returns
+returns c = wanted-no (c .before .before .args .s) (sym (c .before .is-session .ensures) ∙ not-true _ (c .if1 .taken))
+
+session-of-requires : tie.Need-session-of-requires
+session-of-requires c κs = search needs
+
+wanted-requires : tie.Need-wanted-requires
+wanted-requires c κs = search needs
+
+returns-2 : tie.Need-returns-2
+returns-2 c =
+    c .wanted .ensures
+    ∙ ap wantedOf (c .before .session-of .ensures)
+    ∙ wanted-is (c .before .before .before .before .args .s) (sym (c .before .before .before .is-session .ensures) ∙ not-false _ (c .before .before .if1 .left))
+
+pub worgesli-wanted-spec : {M : Type 1} → statement M
+worgesli-wanted-spec =
+    tie.close (tie.spec is-session-requires returns session-of-requires wanted-requires returns-2)

@@ -1,0 +1,49 @@
+-- The step, the channel's end and the bytes asked for over sessions as plain numbers: numbers that are a session's are read as it, and what it does is
+-- told as numbers; any other numbers are refused with 18, as document 01 has it for counts that are no session's ("a session count above its limit"),
+-- and nothing is touched.
+use Prim.Native.Nat.{ℕ}
+use mathlib.Core.List.{List}
+use Rattle.base.specs.Choice.{pick}
+use Rattle.build.specs.declared.Request.the-variants as Q
+use Rattle.build.specs.Build as B
+use Rattle.session.specs.Step.{Outcome, stepOf, closedOf}
+use Rattle.host.specs.Host.{wantedOf}
+use Rattle.raw.specs.declared.RawSession.{RawSession}
+use Rattle.raw.specs.declared.RawStepped.{RawStepped}
+use Rattle.raw.specs.Raw.{sessionOf, isSession, rawStepped, noSession}
+use Rattle.raw_records.specs.Records.{builtNumber}
+
+-- a step's whole outcome, as numbers
+pub record RawOutcome : Type 0 where
+  pub stepped : RawStepped
+  pub table : List ℕ
+  pub reply : List ℕ
+  pub out : List ℕ
+
+abbrev pub rawOutcome : RawStepped → List ℕ → List ℕ → List ℕ → RawOutcome
+rawOutcome r t y o = record { stepped = r; table = t; reply = y; out = o }
+
+abbrev pub told : Outcome → RawOutcome
+told x = rawOutcome (rawStepped (x .stepped)) (x .table) (x .reply) (x .out)
+
+-- session, delivery, image set, names, table, reply and out buffers
+unfoldable pub stepRaw : RawSession → List ℕ → List ℕ → List ℕ → List ℕ → List ℕ → List ℕ → RawOutcome
+stepRaw r d set names t y o =
+    pick (isSession r) (told (stepOf (sessionOf r) d set names t y o)) (rawOutcome (noSession r) t y o)
+
+unfoldable pub closedRaw : RawSession → RawStepped
+closedRaw r = pick (isSession r) (rawStepped (closedOf (sessionOf r))) (noSession r)
+
+unfoldable pub wantedRaw : RawSession → ℕ
+wantedRaw r = pick (isSession r) (wantedOf (sessionOf r)) 0
+
+-- Reset: its number, and the out buffer afterwards
+pub record ResetOutcome : Type 0 where
+  pub refused : ℕ
+  pub out : List ℕ
+
+abbrev pub resetOutcome : ℕ → List ℕ → ResetOutcome
+resetOutcome n o = record { refused = n; out = o }
+
+unfoldable pub resetRaw : List ℕ → ResetOutcome
+resetRaw o = resetOutcome (builtNumber (B.buildOf Q.Reset o .built)) (B.buildOf Q.Reset o .out)

@@ -1,0 +1,152 @@
+// The host for C and Rust. A slice crosses as a pointer and a length, a struct by value.
+use build::sahara_reset;
+use bundle::check_images;
+use bundle::check_names;
+use entry::entry_at;
+use image::ImageId;
+use image::image_range;
+use packet::sahara_parse_packet;
+use raw::RawSession;
+use raw::RawStepped;
+use raw_packet::RawPacket;
+use raw_records::RawEntry;
+use raw_records::RawRange;
+ghost use mathlib.Core.Path.{_≡_};
+ghost use Prim.Native.Nat.{_-_};
+ghost use Rattle.utf8.specs.Utf8.{utf8};
+ghost use Rattle.bundle.specs.Bundle.{imagesChecked, namesChecked};
+ghost use Rattle.image.specs.Image.{rangeOf};
+ghost use Rattle.entry.specs.Entry.{entryAt};
+ghost use Rattle.selection.specs.Selection.{nextOf};
+ghost use Rattle.packet.specs.Packet.{decodeOf};
+ghost use Rattle.raw.specs.Raw.{isSession, openedRaw};
+ghost use Rattle.raw_packet.specs.RawPacket.{rawPacket};
+ghost use Rattle.raw_records.specs.Records.{rawEntry, rawRange, checkedNumber};
+ghost use Rattle.worgesli.specs.Worgesli.{rawOutcome, stepRaw, closedRaw, wantedRaw, resetOutcome, resetRaw};
+
+// A session opened with a mode, a command or none, and a backend; no session where a number names none.
+#[no_mangle]
+pub extern "C" fn worgesli_open(mode: u32, command: u32, backend: u32) -> RawSession
+    ensures { λ r. ⌜ r ≡ openedRaw mode command backend ⌝ }
+{
+    raw::opened(mode, command, backend)
+}
+
+// One step: a delivery, the image set and the names, and the table, reply and out buffers.
+#[no_mangle]
+pub extern "C" fn worgesli_step(
+    s: RawSession,
+    delivery: &[u8],
+    set: &[u8],
+    names: &[u8],
+    table: &mut [u8],
+    reply: &mut [u8],
+    out: &mut [u8],
+) -> RawStepped
+    ensures { λ r. ⌜ rawOutcome r (now (table .exit)) (now (reply .exit)) (now (out .exit))
+        ≡ stepRaw s (now (delivery .entry)) (now (set .entry)) (now (names .entry)) (now (table .entry)) (now (reply .entry)) (now (out .entry)) ⌝ }
+{
+    if !raw::is_session(s) {
+        return raw::no_session(s);
+    }
+    let t = host::step(raw::session_of(s), delivery, set, names, table, reply, out);
+    raw::raw_stepped(t)
+}
+
+// The channel was closed.
+#[no_mangle]
+pub extern "C" fn worgesli_closed(s: RawSession) -> RawStepped
+    ensures { λ r. ⌜ r ≡ closedRaw s ⌝ }
+{
+    if !raw::is_session(s) {
+        return raw::no_session(s);
+    }
+    let t = host::closed(raw::session_of(s));
+    raw::raw_stepped(t)
+}
+
+// Whether the numbers are a session's.
+#[no_mangle]
+pub extern "C" fn worgesli_is_session(s: RawSession) -> bool
+    ensures { λ r. ⌜ r ≡ isSession s ⌝ }
+{
+    raw::is_session(s)
+}
+
+// How many bytes the next step asks for: 0 where it needs none.
+#[no_mangle]
+pub extern "C" fn worgesli_wanted(s: RawSession) -> usize
+    ensures { λ r. ⌜ r ≡ wantedRaw s ⌝ }
+{
+    if !raw::is_session(s) {
+        return 0;
+    }
+    host::wanted(raw::session_of(s))
+}
+
+#[no_mangle]
+pub extern "C" fn worgesli_check_images(set: &[u8]) -> u32
+    ensures { λ r. ⌜ r ≡ checkedNumber (imagesChecked (now (set .entry))) ⌝ }
+{
+    raw_records::checked_number(check_images(set))
+}
+
+#[no_mangle]
+pub extern "C" fn worgesli_check_names(names: &[u8]) -> u32
+    ensures { λ r. ⌜ r ≡ checkedNumber (namesChecked (now (names .entry))) ⌝ }
+{
+    raw_records::checked_number(check_names(names))
+}
+
+// Where the bytes that a read asks for stand in the set.
+#[no_mangle]
+pub extern "C" fn worgesli_image_range(set: &[u8], id: u64, offset: u64, len: u64) -> RawRange
+    ensures { λ r. ⌜ r ≡ rawRange (rangeOf (now (set .entry)) id offset len) ⌝ }
+{
+    raw_records::raw_range(image_range(set, ImageId(id), offset, len))
+}
+
+// Entry i of a table.
+#[no_mangle]
+pub extern "C" fn worgesli_entry_at(table: &[u8], i: usize) -> RawEntry
+    ensures { λ r. ⌜ r ≡ rawEntry (entryAt 8 (now (table .entry)) i) ⌝ }
+{
+    raw_records::raw_entry(entry_at(table, i))
+}
+
+// The first selected entry from `from` on and before `entries`.
+#[no_mangle]
+pub extern "C" fn worgesli_next_selected(
+    table: &[u8],
+    entries: usize,
+    names: &[u8],
+    from: usize,
+) -> usize
+    ensures { λ r. ⌜ r ≡ nextOf 8 (now (names .entry)) (now (table .entry)) (entries - from) from ⌝ }
+{
+    selection::next_selected(table, entries, names, from)
+}
+
+// Whether the bytes are UTF-8.
+#[no_mangle]
+pub extern "C" fn worgesli_utf8(bytes: &[u8]) -> bool
+    ensures { λ r. ⌜ r ≡ utf8 (now (bytes .entry)) ⌝ }
+{
+    utf8::valid(bytes)
+}
+
+// A packet, decoded from any bytes.
+#[no_mangle]
+pub extern "C" fn worgesli_parse_packet(bytes: &[u8]) -> RawPacket
+    ensures { λ r. ⌜ r ≡ rawPacket (decodeOf (now (bytes .entry))) ⌝ }
+{
+    raw_packet::raw_packet(sahara_parse_packet(bytes))
+}
+
+// Reset, 8 bytes of the out buffer.
+#[no_mangle]
+pub extern "C" fn worgesli_reset(out: &mut [u8]) -> u32
+    ensures { λ r. ⌜ resetOutcome r (now (out .exit)) ≡ resetRaw (now (out .entry)) ⌝ }
+{
+    raw_records::built_number(sahara_reset(out))
+}

@@ -1,0 +1,248 @@
+/* Calls every function of libworgesli.a from C. Standard input has the bytes of a device (crates/desk/stdin); standard output is held to what
+ * crates/desk writes for them. layout.inc is made by tools/test-c from the Rattle source: sizes, places and types of every field, and each prototype.
+ */
+#include <stdio.h>
+#include <string.h>
+
+#include "worgesli.h"
+
+/* ---- the Rattle source's layout against the header's */
+
+#define SIZE(type, size) _Static_assert(sizeof(type) == (size), "size of " #type);
+#define FIELD(type, field, ctype, place)                                               \
+    _Static_assert(offsetof(type, field) == (place), "place of " #type "." #field);    \
+    _Static_assert(_Generic(((type *)0)->field, ctype: 1, default: 0), "type of " #type "." #field);
+#define BYTES(type, field, count, place)                                               \
+    _Static_assert(offsetof(type, field) == (place), "place of " #type "." #field);    \
+    _Static_assert(_Generic(&((type *)0)->field, uint8_t(*)[count]: 1, default: 0), "type of " #type "." #field);
+#include "layout.inc"
+
+static int failed;
+
+static void expect(bool so, int line, const char *what)
+{
+    if (so)
+        return;
+    fprintf(stderr, "abi.c:%d: not so: %s\n", line, what);
+    failed = 1;
+}
+
+#define EXPECT(test) expect((test), __LINE__, #test)
+
+static const uint8_t none[8]; /* an empty image set, and an empty name list */
+
+static uint8_t table[256], reply[64], out[48];
+
+static void fill(void)
+{
+    memset(table, 0x5a, sizeof table);
+    memset(reply, 0x5a, sizeof reply);
+    memset(out, 0x5a, sizeof out);
+}
+
+static bool filled(void)
+{
+    for (size_t i = 0; i < sizeof table; i++)
+        if (table[i] != 0x5a)
+            return false;
+    for (size_t i = 0; i < sizeof reply; i++)
+        if (reply[i] != 0x5a)
+            return false;
+    for (size_t i = 0; i < sizeof out; i++)
+        if (out[i] != 0x5a)
+            return false;
+    return true;
+}
+
+static bool same(worgesli_session a, worgesli_session b)
+{
+    return memcmp(&a, &b, sizeof a) == 0;
+}
+
+static worgesli_stepped step(worgesli_session s, const uint8_t *delivery, size_t n)
+{
+    return worgesli_step(s, delivery, n, none, sizeof none, none, sizeof none, table, sizeof table, reply, sizeof reply, out, sizeof out);
+}
+
+static bool refused(worgesli_stepped r, uint64_t why)
+{
+    return r.answer == WORGESLI_REFUSED && r.first == why && r.second == 0 && r.taken == 0;
+}
+
+/* ---- the conversation of crates/desk, as its lines; and again, reading no more than is wanted */
+
+static const char *const words[] = {"go", "send", "image", "open", "bytes", "empty read", "close", "finished", "refused"};
+
+static void converse(const uint8_t *bytes, size_t n)
+{
+    worgesli_session s = worgesli_open(WORGESLI_WAITING_FOR_IMAGE, WORGESLI_NO_COMMAND, WORGESLI_SERIAL);
+    EXPECT(worgesli_is_session(s));
+    size_t from = 0;
+    for (int turns = 0; turns < 100; turns++) {
+        worgesli_stepped r = step(s, bytes + from, n - from);
+        EXPECT(r.answer < 9 && r.taken <= n - from);
+        if (failed)
+            return;
+        printf("%zu %s %llu\n", r.taken, words[r.answer], (unsigned long long)r.first);
+        from += r.taken;
+        s = r.session;
+        EXPECT(worgesli_is_session(s));
+        if (r.answer == WORGESLI_FINISHED || r.answer == WORGESLI_REFUSED)
+            return;
+    }
+    EXPECT(!"the conversation ends");
+}
+
+static void sip(const uint8_t *bytes, size_t n)
+{
+    worgesli_session s = worgesli_open(WORGESLI_WAITING_FOR_IMAGE, WORGESLI_NO_COMMAND, WORGESLI_SERIAL);
+    size_t from = 0;
+    uint32_t last = WORGESLI_GO;
+    EXPECT(worgesli_wanted(s) == 8);
+    while (last != WORGESLI_FINISHED && last != WORGESLI_REFUSED) {
+        size_t k = worgesli_wanted(s);
+        EXPECT(0 < k && k <= n - from);
+        if (failed)
+            return;
+        worgesli_stepped r = step(s, bytes + from, k);
+        EXPECT(r.taken == k);
+        from += r.taken;
+        s = r.session;
+        last = r.answer;
+    }
+    EXPECT(last == WORGESLI_FINISHED && from == n && worgesli_wanted(s) == 0);
+    EXPECT(refused(step(s, NULL, 0), 4));
+    EXPECT(refused(worgesli_closed(s), 4));
+}
+
+/* ---- bits that are no session */
+
+static void no_session(worgesli_session s)
+{
+    fill();
+    EXPECT(!worgesli_is_session(s));
+    worgesli_stepped r = step(s, none, sizeof none);
+    EXPECT(refused(r, 18) && same(r.session, s) && filled());
+    r = worgesli_closed(s);
+    EXPECT(refused(r, 18) && same(r.session, s));
+    EXPECT(worgesli_wanted(s) == 0);
+}
+
+static void no_sessions(void)
+{
+    const worgesli_session good = worgesli_open(WORGESLI_MEMORY_DEBUG, WORGESLI_READ_OEM_KEY_HASH, WORGESLI_USB);
+    worgesli_session s;
+    EXPECT(worgesli_is_session(good));
+    no_session(worgesli_open(1, WORGESLI_NO_COMMAND, 0));
+    no_session(worgesli_open(0, 4, 0));
+    no_session(worgesli_open(0, 0, 2));
+    s = good, s.phase = 7, no_session(s);
+    /* numbers that the phase does not use */
+    static const uint32_t one_count[] = {WORGESLI_PACKET, WORGESLI_SWITCHED, WORGESLI_ENDED};
+    static const uint32_t two_counts[] = {WORGESLI_RESPONSE, WORGESLI_TABLE, WORGESLI_BETWEEN};
+    for (int i = 0; i < 3; i++) {
+        s = good, s.phase = one_count[i], s.count = 3, EXPECT(worgesli_is_session(s));
+        s.at = 1, no_session(s);
+        s = good, s.phase = two_counts[i], s.count = 3, s.at = 1, EXPECT(worgesli_is_session(s));
+        s.base = 1, no_session(s);
+        s.base = 0, s.len = 1, no_session(s);
+        s.len = 0, s.done = 1, no_session(s);
+        s.done = 0, s.outstanding = 1, no_session(s);
+        s.outstanding = 0, s.due = 1, no_session(s);
+    }
+    s = good, s.phase = WORGESLI_REGION, s.count = 64, s.base = 1, s.len = 2, s.done = 1, s.outstanding = 1, s.due = 1;
+    EXPECT(worgesli_is_session(s));
+    s.due = 2, no_session(s);
+    memset(&s, 0xff, sizeof s), no_session(s);
+}
+
+/* ---- NULL with length 0, for every slice */
+
+static void nulls(void)
+{
+    const worgesli_session s = worgesli_open(WORGESLI_WAITING_FOR_IMAGE, WORGESLI_NO_COMMAND, WORGESLI_SERIAL);
+    worgesli_stepped r = worgesli_step(s, NULL, 0, NULL, 0, NULL, 0, NULL, 0, NULL, 0, NULL, 0);
+    EXPECT(refused(r, 1) && same(r.session, s));
+    r = worgesli_step(s, NULL, 0, none, 8, NULL, 0, NULL, 0, NULL, 0, NULL, 0);
+    EXPECT(refused(r, 2) && same(r.session, s));
+    r = worgesli_step(s, NULL, 0, none, 8, none, 8, NULL, 0, NULL, 0, NULL, 0);
+    EXPECT(refused(r, 3) && same(r.session, s));
+    r = worgesli_step(s, NULL, 0, none, 8, none, 8, NULL, 0, NULL, 0, out, sizeof out);
+    EXPECT(r.answer == WORGESLI_GO && r.taken == 0 && same(r.session, s));
+    EXPECT(worgesli_check_images(NULL, 0) == 1 && worgesli_check_names(NULL, 0) == 2);
+    EXPECT(worgesli_image_range(NULL, 0, 0, 0, 0).refused == 1);
+    EXPECT(worgesli_entry_at(NULL, 0, 0).there == 0);
+    EXPECT(worgesli_next_selected(NULL, 0, 0, NULL, 0, 0) == 0);
+    EXPECT(worgesli_utf8(NULL, 0));
+    EXPECT(worgesli_parse_packet(NULL, 0).refused == 9);
+    EXPECT(worgesli_reset(NULL, 0) == 3);
+}
+
+/* ---- the leaves: each field of each struct comes from its own bytes */
+
+static void leaves(const uint8_t *hello)
+{
+    EXPECT(worgesli_check_images(none, 8) == 0 && worgesli_check_names(none, 8) == 0);
+
+    static const uint8_t set[] = {1, 0, 0, 0, 3, 0, 0, 0, 0, 0, 0, 0, 3, 0, 0, 0, 'a', 'b', 'c'};
+    worgesli_range g = worgesli_image_range(set, sizeof set, 13, 1, 2);
+    EXPECT(g.refused == 0 && g.start == 17 && g.len == 2);
+    g = worgesli_image_range(set, sizeof set, 13, 2, 2);
+    EXPECT(g.refused == 13 && g.start == 0 && g.len == 0);
+    g = worgesli_image_range(set, sizeof set, 13, 0, UINT64_MAX);
+    EXPECT(g.refused == 13);
+
+    for (size_t i = 0; i < sizeof table; i++)
+        table[i] = (uint8_t)i;
+    worgesli_entry e = worgesli_entry_at(table, 192, 1);
+    EXPECT(e.there == 1 && e.save_pref == 0x4746454443424140 && e.base == 0x4f4e4d4c4b4a4948 && e.len == 0x5756555453525150);
+    EXPECT(memcmp(e.description, table + 88, 20) == 0 && memcmp(e.filename, table + 108, 20) == 0);
+    worgesli_entry nothing;
+    memset(&nothing, 0, sizeof nothing);
+    e = worgesli_entry_at(table, 191, 2);
+    EXPECT(e.there == 0 && e.save_pref == 0 && e.base == 0 && e.len == 0);
+    EXPECT(memcmp(e.description, nothing.description, 20) == 0 && memcmp(e.filename, nothing.filename, 20) == 0);
+
+    memset(table, 0, sizeof table);
+    table[64] = 1;
+    EXPECT(worgesli_next_selected(table, 192, 3, none, 8, 0) == 1 && worgesli_next_selected(table, 192, 3, none, 8, 2) == 3);
+
+    EXPECT(worgesli_utf8((const uint8_t *)"\xc3\xa4", 2) && !worgesli_utf8((const uint8_t *)"\xc3\xa4", 1) && !worgesli_utf8((const uint8_t *)"\xc0\x80", 2));
+
+    worgesli_packet p = worgesli_parse_packet(hello, 48);
+    EXPECT(p.refused == 0 && p.command == 1 && p.len == 48 && p.value == 0 && p.first == 2 && p.second == 1 && p.third == 4096);
+    uint8_t q[48];
+    for (size_t i = 0; i < sizeof q; i++)
+        q[i] = (uint8_t)(i + 1);
+    memcpy(q, "\x02\0\0\0", 4);
+    memcpy(q + 20, "\x03\0\0\0", 4);
+    p = worgesli_parse_packet(q, sizeof q);
+    EXPECT(p.refused == 0 && p.command == 2 && p.len == 0x08070605 && p.value == 3 && p.first == 0x0c0b0a09 && p.second == 0x100f0e0d && p.third == 0x14131211);
+    EXPECT(p.unk0 == 0x1c1b1a19 && p.unk1 == 0x201f1e1d && p.unk2 == 0x24232221 && p.unk3 == 0x28272625 && p.unk4 == 0x2c2b2a29 && p.unk5 == 0x302f2e2d);
+    q[0] = 0x12;
+    p = worgesli_parse_packet(q, sizeof q);
+    EXPECT(p.refused == 0 && p.command == 0x12 && p.value == 0 && p.first == 0x100f0e0d0c0b0a09 && p.second == 0x0000000314131211 && p.third == 0x201f1e1d1c1b1a19);
+    q[0] = 0x15;
+    p = worgesli_parse_packet(q, sizeof q);
+    EXPECT(p.refused == 6 && p.command == 0 && p.len == 0 && p.value == 0 && p.first == 0 && p.second == 0 && p.third == 0 && p.unk0 == 0 && p.unk5 == 0);
+
+    fill();
+    EXPECT(worgesli_reset(out, 47) == 3 && filled());
+    EXPECT(worgesli_reset(out, 48) == 0 && memcmp(out, "\7\0\0\0\x8\0\0\0", 8) == 0 && out[8] == 0x5a && out[47] == 0x5a);
+}
+
+int main(void)
+{
+    static uint8_t bytes[4096];
+    size_t n = fread(bytes, 1, sizeof bytes, stdin);
+    EXPECT(48 <= n && n < sizeof bytes);
+    if (!failed)
+        converse(bytes, n);
+    if (!failed)
+        sip(bytes, n);
+    if (!failed)
+        leaves(bytes);
+    no_sessions();
+    nulls();
+    return failed;
+}
