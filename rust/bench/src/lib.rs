@@ -1,0 +1,200 @@
+//! What a host costs against a device in memory, less the device's own cost.
+//!
+//! A host is anything that fetches from a [`Wire`]. [`Bare`] makes the same reads and writes and thinks nothing: its time is that of
+//! the device and the sink, and is taken off. Hosts take turns in one run, so that what else the machine does falls on all of them.
+use device::{Device, Division, Memory, Region, Wire};
+use std::fs::{File, OpenOptions};
+use std::hint::black_box;
+use std::io::{self, Read, Write};
+use std::time::{Duration, Instant};
+use worgesli::{sahara_run, Backend, Entry, Mode, Outcome, Sink};
+
+/// What is fetched.
+#[derive(Clone, Debug)]
+pub struct Setting {
+    pub backend: Backend,
+    /// the lengths of the preferred regions, one behind the other from address 0
+    pub regions: Vec<u64>,
+    /// entries before them that are not preferred
+    pub others: usize,
+    /// names, of which the last is the regions'
+    pub names: usize,
+    /// slots of the image set
+    pub slots: usize,
+}
+
+impl Setting {
+    pub fn new(backend: Backend, len: u64) -> Setting {
+        Setting { backend, regions: vec![len], others: 0, names: 0, slots: 0 }
+    }
+
+    pub fn chunks(&self) -> u64 {
+        self.regions.iter().map(|len| len.div_ceil(4096)).sum()
+    }
+
+    pub fn names(&self) -> Vec<String> {
+        (1..=self.names).map(|i| if i == self.names { "DDR".into() } else { format!("name{i:014}") }).collect()
+    }
+
+    pub fn images(&self) -> Vec<Option<Vec<u8>>> {
+        (0..self.slots).map(|i| Some(vec![i as u8; 16])).collect()
+    }
+
+    /// A channel to a fresh device, which gives each read all that it asks for.
+    pub fn wire(&self) -> Wire {
+        let mut table = vec![Region::new("OTHER.BIN", 0, 4096).unpreferred(); self.others];
+        let mut base = 0;
+        for len in &self.regions {
+            table.push(Region::new("DDR.BIN", base, *len));
+            base += len;
+        }
+        Wire::new(Device::dump(Memory::new(1, 1 << 60, &table)), Division::Whole, 1)
+    }
+}
+
+/// Fetches the regions of a setting, and gives how many bytes it kept.
+pub trait Host {
+    fn name(&self) -> &str;
+    fn fetch(&mut self, setting: &Setting, channel: &mut Wire) -> u64;
+}
+
+/// Where the bytes go: counted only, or written to /dev/null as a host writes a file.
+pub enum Keep {
+    Count,
+    Null(File),
+}
+
+impl Keep {
+    pub fn null() -> io::Result<Keep> {
+        Ok(Keep::Null(OpenOptions::new().write(true).open("/dev/null")?))
+    }
+}
+
+struct Kept<'a>(&'a mut Keep, u64);
+
+impl Sink for Kept<'_> {
+    fn open(&mut self, _: usize, _: &Entry) -> io::Result<()> {
+        Ok(())
+    }
+    #[inline]
+    fn bytes(&mut self, bytes: &[u8]) -> io::Result<usize> {
+        self.1 += bytes.len() as u64;
+        match self.0 {
+            Keep::Count => Ok(black_box(bytes).len()),
+            Keep::Null(file) => file.write(bytes),
+        }
+    }
+    fn close(&mut self, _: usize) -> io::Result<()> {
+        Ok(())
+    }
+}
+
+/// This host.
+pub struct Worgesli(pub Keep);
+
+impl Host for Worgesli {
+    fn name(&self) -> &str {
+        "worgesli"
+    }
+
+    fn fetch(&mut self, setting: &Setting, channel: &mut Wire) -> u64 {
+        let mut sink = Kept(&mut self.0, 0);
+        let (images, names) = (setting.images(), setting.names());
+        let end = sahara_run(channel, setting.backend, Mode::MemoryDebug, None, &images, &names, &mut sink, |_| (), 0);
+        assert_eq!(end.unwrap(), Outcome::Dumped { reads: 1 + setting.chunks() });
+        sink.1
+    }
+}
+
+/// The reads and writes alone.
+pub struct Bare(pub Keep);
+
+fn ask(channel: &mut Wire, at: u64, len: u64) {
+    let mut request = [0; 24];
+    request[0] = 0x11;
+    request[4] = 24;
+    request[8..16].copy_from_slice(&at.to_le_bytes());
+    request[16..].copy_from_slice(&len.to_le_bytes());
+    channel.write_all(&request).unwrap();
+    channel.flush().unwrap();
+}
+
+impl Host for Bare {
+    fn name(&self) -> &str {
+        "device and sink alone"
+    }
+
+    fn fetch(&mut self, setting: &Setting, channel: &mut Wire) -> u64 {
+        let mut sink = Kept(&mut self.0, 0);
+        let mut buf = vec![0; 65_536];
+        channel.read_exact(&mut buf[..48]).unwrap();
+        channel.write_all(&[0; 48]).unwrap();
+        channel.read_exact(&mut buf[..24]).unwrap();
+        let table = (setting.others + setting.regions.len()) * 64;
+        ask(channel, 1 << 60, table as u64);
+        channel.read_exact(&mut buf[..table]).unwrap();
+        let mut at = 0;
+        for len in &setting.regions {
+            let end = at + len;
+            while at < end {
+                let n = (end - at).min(4096);
+                ask(channel, at, n);
+                let n = channel.read(&mut buf[..n as usize]).unwrap();
+                if setting.backend == Backend::Usb && n.is_multiple_of(512) {
+                    let _ = channel.read(&mut []);
+                }
+                sink.bytes(&buf[..n]).unwrap();
+                at += n as u64;
+            }
+        }
+        sink.1
+    }
+}
+
+/// Times of a fetch.
+#[derive(Clone, Copy, Debug)]
+pub struct Cost {
+    pub least: Duration,
+    pub median: Duration,
+    pub chunks: u64,
+}
+
+impl Cost {
+    /// Nanoseconds for each chunk of 4,096 bytes: the least, the median.
+    pub fn per_chunk(&self) -> (f64, f64) {
+        let ns = |d: Duration| d.as_nanos() as f64 / self.chunks as f64;
+        (ns(self.least), ns(self.median))
+    }
+}
+
+/// Lets the hosts fetch in turn, so many rounds.
+pub fn fetches(hosts: &mut [&mut dyn Host], setting: &Setting, rounds: usize) -> Vec<Cost> {
+    let bytes: u64 = setting.regions.iter().sum();
+    let mut times = vec![Vec::new(); hosts.len()];
+    for _ in 0..rounds {
+        for (host, times) in hosts.iter_mut().zip(&mut times) {
+            let mut wire = setting.wire();
+            let start = Instant::now();
+            let kept = host.fetch(setting, &mut wire);
+            times.push(start.elapsed());
+            assert_eq!((kept, wire.device.reads()), (bytes, 1 + setting.chunks()), "{}", host.name());
+        }
+    }
+    let cost = |mut times: Vec<Duration>| {
+        times.sort();
+        Cost { least: times[0], median: times[times.len() / 2], chunks: setting.chunks() }
+    };
+    times.into_iter().map(cost).collect()
+}
+
+/// Prints each host's nanoseconds a chunk, less those of the first.
+pub fn table(title: &str, hosts: &mut [&mut dyn Host], setting: &Setting, rounds: usize) {
+    let costs = fetches(hosts, setting, rounds);
+    let (least, median) = costs[0].per_chunk();
+    println!("{title}");
+    println!("    {:<24} least {least:8.1}  median {median:8.1}", hosts[0].name());
+    for (host, cost) in hosts.iter().zip(&costs).skip(1) {
+        let (l, m) = cost.per_chunk();
+        println!("    {:<24} least {l:8.1}  median {m:8.1}   its own: {:8.1} {:8.1}", host.name(), l - least, m - median);
+    }
+}

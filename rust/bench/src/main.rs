@@ -1,0 +1,47 @@
+//! Prints what the host costs. `cargo run --release -p bench`
+mod steps;
+
+use bench::{fetches, table, Bare, Host, Keep, Setting, Worgesli};
+use worgesli::Backend;
+
+const MIB: u64 = 1 << 20;
+
+/// The host's own nanoseconds a chunk and the fetch's microseconds, in one line.
+fn line(what: &str, setting: &Setting, rounds: usize) {
+    let (mut bare, mut ours) = (Bare(Keep::Count), Worgesli(Keep::Count));
+    let costs = fetches(&mut [&mut bare, &mut ours as &mut dyn Host], setting, rounds);
+    let ((bl, bm), (l, m)) = (costs[0].per_chunk(), costs[1].per_chunk());
+    let all = costs[1].least.as_nanos() as f64 / 1000.0;
+    println!("    {what:<44} {:8.1} {:8.1}   {all:12.1}", l - bl, m - bm);
+}
+
+fn main() -> std::io::Result<()> {
+    for (name, backend) in [("serial", Backend::Serial), ("USB", Backend::Usb)] {
+        let setting = Setting::new(backend, 64 * MIB);
+        let mut hosts = (Bare(Keep::Count), Worgesli(Keep::Count));
+        let title = format!("{name}, 64 MiB, bytes counted: ns for each 4,096 bytes, 15 rounds");
+        table(&title, &mut [&mut hosts.0, &mut hosts.1], &setting, 15);
+        let mut hosts = (Bare(Keep::null()?), Worgesli(Keep::null()?));
+        let title = format!("{name}, 64 MiB, bytes written to /dev/null: ns for each 4,096 bytes, 15 rounds");
+        table(&title, &mut [&mut hosts.0, &mut hosts.1], &setting, 15);
+    }
+    println!("USB, the host's own ns for each 4,096 bytes (least, median), and the whole fetch in µs (least)");
+    for mib in [1, 4, 16, 64, 256, 1024] {
+        line(&format!("one region of {mib} MiB"), &Setting::new(Backend::Usb, mib * MIB), if mib > 64 { 3 } else { 15 });
+    }
+    for others in [0, 15, 255, 1023] {
+        let setting = Setting { others, ..Setting::new(Backend::Usb, 16 * MIB) };
+        line(&format!("16 MiB, {} entries, the last preferred", others + 1), &setting, 15);
+    }
+    for n in [1, 16, 256, 1024] {
+        let setting = Setting { regions: vec![16 * MIB / n; n as usize], ..Setting::new(Backend::Usb, 0) };
+        line(&format!("16 MiB in {n} regions"), &setting, 15);
+    }
+    for (names, slots) in [(0, 0), (64, 0), (0, 64), (64, 64)] {
+        let setting = Setting { names, slots, ..Setting::new(Backend::Usb, 16 * MIB) };
+        line(&format!("16 MiB, {names} names, {slots} slots"), &setting, 15);
+    }
+    steps::print(1, 0);
+    steps::print(1024, 64);
+    Ok(())
+}

@@ -1,0 +1,96 @@
+//! The cost of one step, in each phase: the archive's function called directly, again and again with the same numbers.
+use device::Region;
+use std::hint::black_box;
+use std::time::Instant;
+use worgesli::{raw, Backend, Command, ImageSet, Mode, NameList, Session};
+
+struct Lent {
+    set: Vec<u8>,
+    names: Vec<u8>,
+    table: Vec<u8>,
+    reply: Vec<u8>,
+    out: Vec<u8>,
+}
+
+impl Lent {
+    fn step(&mut self, s: raw::Session, delivery: &[u8]) -> raw::Stepped {
+        raw::step(s, delivery, &self.set, &self.names, &mut self.table, &mut self.reply, &mut self.out)
+    }
+
+    /// The least nanoseconds for a step of so many batches.
+    fn cost(&mut self, s: raw::Session, delivery: &[u8]) -> f64 {
+        least(|| {
+            black_box(self.step(black_box(s), black_box(delivery)));
+        })
+    }
+}
+
+/// The least of 30 batches of 2,000 calls.
+fn least(mut call: impl FnMut()) -> f64 {
+    let mut batch = || {
+        let start = Instant::now();
+        (0..2000).for_each(|_| call());
+        start.elapsed().as_nanos() as f64 / 2000.0
+    };
+    (0..30).map(|_| batch()).fold(f64::MAX, f64::min)
+}
+
+fn lent(entries: usize, many: usize) -> Lent {
+    let mut table: Vec<u8> = Region::new("OTHER.BIN", 0, 4096).unpreferred().bytes().repeat(entries - 1);
+    table.extend(Region::new("DDR.BIN", 1 << 20, 1 << 30).bytes());
+    let images: Vec<Option<Vec<u8>>> = (0..many).map(|i| Some(vec![i as u8; 16])).collect();
+    let names: Vec<String> = (1..=many).map(|i| if i == many { "DDR".into() } else { format!("name{i:014}") }).collect();
+    Lent {
+        set: ImageSet::new(&images).unwrap().bytes().into(),
+        names: NameList::new(&names).unwrap().bytes().into(),
+        table,
+        reply: vec![0; 4096],
+        out: vec![0; 48],
+    }
+}
+
+/// Prints the steps of a dump and of a command, with so many entries, and so many names and slots.
+pub fn print(entries: usize, many: usize) {
+    println!("one step, ns (least of 30 batches of 2,000), {entries} entries in the table, {many} names and slots");
+    let mut l = lent(entries, many);
+    let line = |what: &str, ns: f64| println!("    {what:<44} {ns:8.1}");
+    let start = *Session::open(Mode::MemoryDebug, Some(Command::Nop), Backend::Usb).raw();
+    let hello = device::hello(2);
+    line("packet: one byte", l.cost(start, &hello[..1]));
+    line("packet: a whole hello", l.cost(start, &hello));
+    let exec = l.step(start, &device::execute_resp(0, 4096)).session;
+    line("response: 64 bytes", l.cost(exec, &[7; 64]));
+    line("response: 4,096 bytes, the last", l.cost(exec, &[7; 4096]));
+    let switched = l.step(exec, &[7; 4096]).session;
+    line("switched", l.cost(switched, &[]));
+    let bytes = l.table.clone();
+    let table = l.step(start, &device::mem_debug64(0, bytes.len() as u64)).session;
+    line("table: 64 bytes", l.cost(table, &bytes[..64]));
+    line("table: all", l.cost(table, &bytes));
+    let between = l.step(table, &bytes).session;
+    line("between: open the last entry", l.cost(between, &[]));
+    let region = l.step(between, &[]).session;
+    line("region: the first memory read", l.cost(region, &[]));
+    let waiting = l.step(region, &[]).session;
+    line("region: 1 byte", l.cost(waiting, &[1]));
+    line("region: 4,096 bytes", l.cost(waiting, &[1; 4096]));
+    let due = l.step(waiting, &[1; 4096]).session;
+    line("region: the empty read", l.cost(due, &[]));
+    let next = l.step(due, &[]).session;
+    line("region: a further memory read", l.cost(next, &[]));
+    let whole = raw::Session { done: next.len, ..next };
+    line("region: close", l.cost(whole, &[]));
+    let after = l.step(whole, &[]);
+    assert_eq!(after.answer, 6);
+    line("between: finish", l.cost(after.session, &[]));
+    let ended = raw::worgesli_closed(next).session;
+    line("ended: refused (4)", l.cost(ended, &[]));
+    let closed = || {
+        black_box(raw::worgesli_closed(black_box(next)));
+    };
+    line("closed", least(closed));
+    let wanted = || {
+        black_box(raw::worgesli_wanted(black_box(waiting)));
+    };
+    line("wanted, in a region", least(wanted));
+}

@@ -1,0 +1,84 @@
+//! Fetches the memory of a simulated device over a socket pair that divides its bytes at random, into files, and compares the files
+//! with the device's memory. `demo FOLDER [SEED]`; the files go into a new folder in FOLDER.
+use device::{Device, Memory, Region, Rng, Socket};
+use std::error::Error;
+use std::fs;
+use std::path::{Path, PathBuf};
+use std::time::{Instant, SystemTime};
+use worgesli::{sahara_run, Backend, Folder, Mode, Outcome};
+
+/// The first of run-1, run-2, … that is not there yet.
+fn fresh(folder: &Path) -> std::io::Result<PathBuf> {
+    fs::create_dir_all(folder)?;
+    let mut n = 1;
+    loop {
+        let path = folder.join(format!("run-{n}"));
+        match fs::create_dir(&path) {
+            Err(e) if e.kind() == std::io::ErrorKind::AlreadyExists => n += 1,
+            made => return made.map(|()| path),
+        }
+    }
+}
+
+/// A recorder's memory: audio buffers, two of one filename, an empty region, one that is not preferred, one up to the last address.
+fn regions(rng: &mut Rng) -> Vec<Region> {
+    let mut len = |most| rng.below(most);
+    vec![
+        Region::new("DDRCS0_0.BIN", 0x8000_0000, 3 << 20),
+        Region::new("OCIMEM.BIN", 0x1468_0000, 256 << 10),
+        Region::new("TAKE.BIN", 0x1_0000_0000, 100_000 + len(1 << 20)),
+        Region::new("SCRATCH.BIN", 0x2_0000_0000, 1 << 20).unpreferred(),
+        Region::new("TAKE.BIN", 0x3_0000_0000, 512 * (1 + len(2000))),
+        Region::new("EMPTY.BIN", 0x10, 0),
+        Region::new("TOP.BIN", 0u64.wrapping_sub(70_001), 70_001),
+    ]
+}
+
+fn main() -> Result<(), Box<dyn Error>> {
+    let mut args = std::env::args().skip(1);
+    let folder = args.next().ok_or("usage: demo FOLDER [SEED]")?;
+    let seed = match args.next() {
+        Some(seed) => seed.parse()?,
+        None => SystemTime::now().duration_since(SystemTime::UNIX_EPOCH)?.as_nanos() as u64 % 1_000_000,
+    };
+    let regions = regions(&mut Rng::new(seed));
+    let memory = Memory::new(seed, 0x4000_0000, &regions);
+    let folder = fresh(folder.as_ref())?;
+    println!("seed {seed}; a device with {} regions; USB rules; over a socket pair", regions.len());
+
+    let (mut host, far) = Socket::pair()?;
+    let far_device = Device::dump(memory.clone());
+    let far = std::thread::spawn(move || device::serve(far_device, far, seed));
+    let mut sink = Folder::new(&folder)?;
+    let start = Instant::now();
+    let names: &[&str] = &[];
+    let mut reported = 0u64;
+    let outcome = sahara_run(&mut host, Backend::Usb, Mode::MemoryDebug, None, &[], names, &mut sink, |_| reported += 1, 0)?;
+    let time = start.elapsed();
+    let (reads, short, empty) = (host.reads, host.short, host.empty_reads);
+    drop(host);
+    let (device, pieces) = far.join().map_err(|_| "the device failed")??;
+    let Outcome::Dumped { reads: requests } = outcome else { return Err("the device offered no memory".into()) };
+    println!("{requests} memory reads sent, {} heard; the device sent its bytes in {pieces} pieces at random", device.reads());
+    println!(
+        "{reads} reads of the socket, {short} gave fewer bytes than asked for; {empty} empty reads; {} ms",
+        time.as_millis()
+    );
+    println!("{reported} times bytes were handed to the files below {}", folder.display());
+
+    let mut wrong = 0;
+    for (place, name) in sink.made() {
+        let r = &regions[*place];
+        let same = fs::read(folder.join(name))? == memory.bytes(r.base, r.len as usize);
+        wrong += u32::from(!same);
+        let said = if same { "as in the device's memory" } else { "NOT as in the device's memory" };
+        println!("    {name:<16} {:>9} bytes from {:#018x}: {said}", r.len, r.base);
+    }
+    let preferred = regions.iter().filter(|r| r.save_pref != 0).count();
+    let all = sink.made().len() == preferred && requests == device.reads() && device.wrong().is_none();
+    if wrong > 0 || !all {
+        return Err(format!("{wrong} files differ; {} of {preferred} regions came", sink.made().len()).into());
+    }
+    println!("{preferred} regions fetched, all as in the device's memory");
+    Ok(())
+}

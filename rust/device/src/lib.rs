@@ -1,0 +1,203 @@
+//! A simulated Sahara device: what it says and hears, in memory or behind a socket, with its bytes divided anywhere and with faults.
+//! It knows nothing of the host under test.
+mod memory;
+mod packets;
+mod rng;
+mod socket;
+mod wire;
+
+pub use memory::{Memory, Region};
+pub use packets::*;
+pub use rng::Rng;
+pub use socket::{serve, Socket};
+pub use wire::{Division, Faults, Wire};
+
+use std::collections::VecDeque;
+
+/// One turn of a conversation, seen from the device.
+#[derive(Clone, Debug)]
+pub enum Turn {
+    Say(Vec<u8>),
+    /// wait for so many bytes
+    Hear(usize),
+}
+
+enum Piece {
+    Bytes(Vec<u8>, usize),
+    Memory { at: u64, len: u64 },
+}
+
+/// Plays its turns; after the last it answers each MemRead64 with the memory's bare bytes.
+pub struct Device {
+    pub memory: Memory,
+    turns: VecDeque<Turn>,
+    queue: VecDeque<Piece>,
+    queued: u64,
+    /// bytes still to be heard before the next turn
+    waiting: usize,
+    /// the memory read that is being heard
+    request: [u8; 24],
+    held: usize,
+    /// what was heard in the turns
+    heard: Vec<u8>,
+    reads: u64,
+    wrong: Option<String>,
+}
+
+impl Device {
+    pub fn new(memory: Memory, turns: Vec<Turn>) -> Device {
+        let mut device = Device {
+            memory,
+            turns: turns.into(),
+            queue: VecDeque::new(),
+            queued: 0,
+            waiting: 0,
+            request: [0; 24],
+            held: 0,
+            heard: Vec::new(),
+            reads: 0,
+            wrong: None,
+        };
+        device.play();
+        device
+    }
+
+    /// Offers its memory: Hello, then MemDebug64.
+    pub fn dump(memory: Memory) -> Device {
+        let offer = mem_debug64(memory.table_at(), memory.table_len());
+        Device::new(memory, vec![Turn::Say(hello(2)), Turn::Hear(48), Turn::Say(offer)])
+    }
+
+    /// Asks for images: each request is an image's ID, offset and length. It ends with `rest`, which is no Sahara any more.
+    pub fn load(requests: &[(u32, u32, u32)], rest: &[u8]) -> Device {
+        let mut turns = vec![Turn::Say(hello(0)), Turn::Hear(48)];
+        for &(id, offset, len) in requests {
+            turns.push(Turn::Say(read_data(id, offset, len)));
+            turns.push(Turn::Hear(len as usize));
+        }
+        turns.extend([Turn::Say(end_of_image(0, 0)), Turn::Hear(8)]);
+        turns.push(Turn::Say([done_resp(1), rest.to_vec()].concat()));
+        Device::new(Memory::empty(), turns)
+    }
+
+    /// Answers one command; `rest` is what it says after SwitchMode.
+    pub fn command(command: u32, reply: &[u8], rest: &[u8]) -> Device {
+        Device::new(
+            Memory::empty(),
+            vec![
+                Turn::Say(hello(3)),
+                Turn::Hear(48),
+                Turn::Say(command_ready()),
+                Turn::Hear(12),
+                Turn::Say(execute_resp(command, reply.len() as u32)),
+                Turn::Hear(12),
+                Turn::Say(reply.to_vec()),
+                Turn::Hear(12),
+                Turn::Say(rest.to_vec()),
+            ],
+        )
+    }
+
+    fn play(&mut self) {
+        while self.waiting == 0 {
+            match self.turns.pop_front() {
+                None => return,
+                Some(Turn::Hear(n)) => self.waiting = n,
+                Some(Turn::Say(bytes)) => {
+                    self.queued += bytes.len() as u64;
+                    self.queue.push_back(Piece::Bytes(bytes, 0));
+                }
+            }
+        }
+    }
+
+    /// The host's bytes, in any division.
+    pub fn hear(&mut self, mut bytes: &[u8]) {
+        while !bytes.is_empty() {
+            let n = if self.waiting > 0 {
+                let n = self.waiting.min(bytes.len());
+                self.heard.extend_from_slice(&bytes[..n]);
+                self.waiting -= n;
+                self.play();
+                n
+            } else {
+                let n = (24 - self.held).min(bytes.len());
+                self.request[self.held..self.held + n].copy_from_slice(&bytes[..n]);
+                self.held += n;
+                if self.held == 24 {
+                    self.held = 0;
+                    self.requested();
+                }
+                n
+            };
+            bytes = &bytes[n..];
+        }
+    }
+
+    fn requested(&mut self) {
+        let r = &self.request;
+        if r[..8] != [0x11, 0, 0, 0, 24, 0, 0, 0] {
+            self.wrong.get_or_insert_with(|| format!("no MemRead64: {r:?}"));
+            return;
+        }
+        let at = u64::from_le_bytes(r[8..16].try_into().unwrap());
+        let len = u64::from_le_bytes(r[16..].try_into().unwrap());
+        if self.queued > 0 {
+            self.wrong.get_or_insert_with(|| format!("asked for {len} bytes at {at:#x} with {} still queued", self.queued));
+        }
+        self.reads += 1;
+        self.queued += len;
+        self.queue.push_back(Piece::Memory { at, len });
+    }
+
+    /// Fills `to` from the queue; gives how many bytes there were.
+    pub fn say(&mut self, to: &mut [u8]) -> usize {
+        let mut filled = 0;
+        while filled < to.len() {
+            let to = &mut to[filled..];
+            let (n, empty) = match self.queue.front_mut() {
+                None => break,
+                Some(Piece::Bytes(bytes, from)) => {
+                    let n = to.len().min(bytes.len() - *from);
+                    to[..n].copy_from_slice(&bytes[*from..*from + n]);
+                    *from += n;
+                    (n, *from == bytes.len())
+                }
+                Some(Piece::Memory { at, len }) => {
+                    let n = (*len).min(to.len() as u64) as usize;
+                    self.memory.read(*at, &mut to[..n]);
+                    *at = at.wrapping_add(n as u64);
+                    *len -= n as u64;
+                    (n, *len == 0)
+                }
+            };
+            if empty {
+                self.queue.pop_front();
+            }
+            self.queued -= n as u64;
+            filled += n;
+        }
+        filled
+    }
+
+    /// Bytes that were said and not taken yet.
+    pub fn queued(&self) -> u64 {
+        self.queued
+    }
+
+    /// What the host said in the turns, without the memory reads.
+    pub fn heard(&self) -> &[u8] {
+        &self.heard
+    }
+
+    /// Memory reads that were heard.
+    pub fn reads(&self) -> u64 {
+        self.reads
+    }
+
+    /// The first thing the host did that a host does not do in a dump: bytes that are no MemRead64, or a request before the last one was
+    /// fetched.
+    pub fn wrong(&self) -> Option<&str> {
+        self.wrong.as_deref()
+    }
+}

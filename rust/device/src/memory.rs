@@ -1,0 +1,114 @@
+//! A device's memory: a function from addresses to bytes, with a table of regions in it.
+use crate::Rng;
+
+/// What an entry of the memory table says.
+#[derive(Clone, Copy, Debug, PartialEq, Eq)]
+pub struct Region {
+    pub save_pref: u64,
+    pub base: u64,
+    pub len: u64,
+    pub description: [u8; 20],
+    pub filename: [u8; 20],
+}
+
+/// Text in 20 bytes, zeros behind it; cut where it is longer.
+fn field(text: &[u8]) -> [u8; 20] {
+    let mut f = [0; 20];
+    let n = text.len().min(20);
+    f[..n].copy_from_slice(&text[..n]);
+    f
+}
+
+impl Region {
+    pub fn new(filename: impl AsRef<[u8]>, base: u64, len: u64) -> Region {
+        Region { save_pref: 1, base, len, description: field(b"region"), filename: field(filename.as_ref()) }
+    }
+
+    /// Not dumped unless it is named.
+    pub fn unpreferred(self) -> Region {
+        Region { save_pref: 0, ..self }
+    }
+
+    pub fn bytes(&self) -> [u8; 64] {
+        let mut e = [0; 64];
+        e[..8].copy_from_slice(&self.save_pref.to_le_bytes());
+        e[8..16].copy_from_slice(&self.base.to_le_bytes());
+        e[16..24].copy_from_slice(&self.len.to_le_bytes());
+        e[24..44].copy_from_slice(&self.description);
+        e[44..].copy_from_slice(&self.filename);
+        e
+    }
+}
+
+// A prime, so that bytes taken from a wrong place show: chunks and blocks are of other lengths.
+const PERIOD: usize = 65_521;
+
+/// Bytes at random that repeat after 65,521 addresses, and the table at its address.
+#[derive(Clone, Debug)]
+pub struct Memory {
+    pattern: Vec<u8>,
+    table_at: u64,
+    table: Vec<u8>,
+}
+
+impl Memory {
+    pub fn new(seed: u64, table_at: u64, regions: &[Region]) -> Memory {
+        Memory::with_table(seed, table_at, regions.iter().flat_map(Region::bytes).collect())
+    }
+
+    pub fn with_table(seed: u64, table_at: u64, table: Vec<u8>) -> Memory {
+        // twice the period, so that a stretch of it lies in one piece
+        let mut pattern = vec![0; PERIOD];
+        Rng::new(seed).fill(&mut pattern);
+        pattern.extend_from_within(..);
+        Memory { pattern, table_at, table }
+    }
+
+    pub fn empty() -> Memory {
+        Memory { pattern: vec![0; 2 * PERIOD], table_at: 0, table: Vec::new() }
+    }
+
+    pub fn table_at(&self) -> u64 {
+        self.table_at
+    }
+
+    pub fn table_len(&self) -> u64 {
+        self.table.len() as u64
+    }
+
+    /// The bytes at an address. Addresses wrap.
+    pub fn read(&self, at: u64, to: &mut [u8]) {
+        let mut from = 0;
+        while from < to.len() {
+            let here = at.wrapping_add(from as u64);
+            // no stretch passes the last address
+            let rest = (to.len() - from).min(PERIOD).min((u64::MAX - here).saturating_add(1).min(PERIOD as u64) as usize);
+            let place = (here % PERIOD as u64) as usize;
+            to[from..from + rest].copy_from_slice(&self.pattern[place..place + rest]);
+            from += rest;
+        }
+        self.overlay(at, to);
+    }
+
+    // The table's bytes, where they are among those of `to`.
+    fn overlay(&self, at: u64, to: &mut [u8]) {
+        let begin = self.table_at.wrapping_sub(at);
+        if begin < to.len() as u64 {
+            let begin = begin as usize;
+            let n = self.table.len().min(to.len() - begin);
+            to[begin..begin + n].copy_from_slice(&self.table[..n]);
+        }
+        let into = at.wrapping_sub(self.table_at);
+        if into < self.table.len() as u64 {
+            let into = into as usize;
+            let n = to.len().min(self.table.len() - into);
+            to[..n].copy_from_slice(&self.table[into..into + n]);
+        }
+    }
+
+    pub fn bytes(&self, at: u64, len: usize) -> Vec<u8> {
+        let mut bytes = vec![0; len];
+        self.read(at, &mut bytes);
+        bytes
+    }
+}

@@ -1,0 +1,23 @@
+//! A host of Qualcomm's Sahara protocol, proved in Rattle and driven from Rust.
+//!
+//! What a step does is proved; this crate calls the proved archive and moves the bytes. [`sahara_run`] runs a host over any channel
+//! that reads and writes. [`Driver`] is the same as a value that survives time-outs. [`Session`] is the bare host.
+#![doc = include_str!("../../README.md")]
+#![deny(unsafe_code)]
+
+mod bundle;
+mod driver;
+mod numbers;
+mod packet;
+pub mod raw;
+mod session;
+mod sink;
+mod table;
+
+pub use bundle::{ImageSet, NameList, SLOTS};
+pub use driver::{sahara_run, Driver, Error, Outcome, Progress, REPLY};
+pub use numbers::{Answer, Backend, Command, Mode, Phase, Refusal};
+pub use packet::{parse_packet, reset, Body, Packet, Unk};
+pub use session::{Session, OUT, TABLE};
+pub use sink::{Count, Folder, Sink};
+pub use table::{entry_at, next_selected, utf8, Entry, ENTRY};

@@ -1,0 +1,143 @@
+//! What the interface says in numbers: modes, commands, backends, phases, answers and refusals.
+use std::fmt;
+
+/// What the host asks of the device.
+#[derive(Clone, Copy, Debug, PartialEq, Eq)]
+#[repr(u32)]
+pub enum Mode {
+    WaitingForImage = 0,
+    MemoryDebug = 2,
+    Command = 3,
+}
+
+impl Mode {
+    pub fn from_number(n: u32) -> Option<Mode> {
+        [Mode::WaitingForImage, Mode::MemoryDebug, Mode::Command].into_iter().find(|m| *m as u32 == n)
+    }
+}
+
+/// What a device in command mode is asked for.
+#[derive(Clone, Copy, Debug, PartialEq, Eq)]
+#[repr(u32)]
+pub enum Command {
+    Nop = 0,
+    ReadSerialNum = 1,
+    ReadHwId = 2,
+    ReadOemKeyHash = 3,
+}
+
+impl Command {
+    pub fn from_number(n: u32) -> Option<Command> {
+        [Command::Nop, Command::ReadSerialNum, Command::ReadHwId, Command::ReadOemKeyHash].into_iter().find(|c| *c as u32 == n)
+    }
+}
+
+/// The channel's kind: on USB the host makes empty reads, which take the empty packets behind full ones.
+#[derive(Clone, Copy, Debug, PartialEq, Eq)]
+#[repr(u32)]
+pub enum Backend {
+    Serial = 0,
+    Usb = 1,
+}
+
+/// Where a session stands.
+#[derive(Clone, Copy, Debug, PartialEq, Eq)]
+#[repr(u32)]
+pub enum Phase {
+    Packet = 0,
+    Response = 1,
+    Switched = 2,
+    Table = 3,
+    Between = 4,
+    Region = 5,
+    Ended = 6,
+}
+
+/// What the caller is to do after a step.
+#[derive(Clone, Copy, Debug, PartialEq, Eq)]
+pub enum Answer {
+    /// nothing
+    Go,
+    /// send the out buffer's first bytes, so many
+    Send(usize),
+    /// send this part of the image set's bytes
+    Image {
+        start: usize,
+        len: usize,
+    },
+    /// a region begins: its place in the table
+    Open(usize),
+    /// the delivery's first bytes, so many, belong to the region
+    Bytes(usize),
+    /// read into an empty buffer
+    EmptyRead,
+    /// the region at this place is whole
+    Close(usize),
+    /// the end: 1 images sent, 2 reset, 3 memory dumped, 4 a reply is there; and the memory reads
+    Finished {
+        how: u8,
+        reads: u64,
+    },
+    Refused(Refusal),
+}
+
+/// A numbered refusal.
+#[derive(Clone, Copy, Debug, PartialEq, Eq)]
+pub struct Refusal(u8);
+
+impl Refusal {
+    pub(crate) fn new(number: u64) -> Refusal {
+        Refusal(number.try_into().unwrap_or(u8::MAX))
+    }
+
+    /// 0 of an operation's result is no refusal.
+    pub(crate) fn check(number: u32) -> Result<(), Refusal> {
+        match number {
+            0 => Ok(()),
+            n => Err(Refusal::new(n.into())),
+        }
+    }
+
+    /// From 1 to 23.
+    pub fn number(self) -> u8 {
+        self.0
+    }
+
+    /// What the number means.
+    pub fn words(self) -> &'static str {
+        match self.0 {
+            1 => "the image set is malformed, or has more than 64 slots or 4 GiB",
+            2 => "the name list is malformed, or has more than 64 names or 4 GiB",
+            3 => "the out buffer has fewer than 48 bytes",
+            4 => "the session has already ended",
+            5 => "the device sent a packet whose length is not from 8 to 4096",
+            6 => "the device sent an unknown command",
+            7 => "the device sent XML: it runs a loader already",
+            8 => "the device sent a command that is not implemented",
+            9 => "the device sent a packet too short for its kind, or a mode or command that is none",
+            10 => "the device sent a packet that only a host sends",
+            11 => "the device sent a packet whose length is not that of its kind",
+            12 => "the device asked for an image that is not in the set",
+            13 => "the device asked for bytes past an image's end",
+            14 => "the device ended an image with an error status",
+            15 => "the device is ready for a command, and none was given",
+            16 => "the device announced a response longer than the reply buffer",
+            17 => "the device announced a memory table longer than 65,536 bytes or the table buffer",
+            18 => "a lent buffer is shorter than what the session fills, or the session's numbers are none that a run gives",
+            19 => "a region's filename has no zero byte",
+            20 => "a region's filename is not UTF-8",
+            21 => "a region's filename is followed by bytes that are not UTF-8",
+            22 => "a region ends above 2^64",
+            23 => "the channel was closed before the end",
+            _ => "no such refusal",
+        }
+    }
+}
+
+impl fmt::Display for Refusal {
+    fn fmt(&self, f: &mut fmt::Formatter<'_>) -> fmt::Result {
+        write!(f, "refused ({}): {}", self.0, self.words())
+    }
+}
+
+impl std::error::Error for Refusal {}

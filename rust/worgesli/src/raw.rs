@@ -1,0 +1,241 @@
+//! The archive's C interface, as `include/worgesli.h` has it: the structs, the functions, and for each function that takes a
+//! pointer a safe one beside it. This is the only file of the crate with unsafe code.
+//!
+//! A slice crosses as a pointer and a length. The functions are proved total: any bits of a struct and any bytes are answered. They
+//! read and write within the lent slices only, keep no pointer and call nothing back. So a Rust slice is all they need, and a
+//! pointer that does not stand for one (NULL with a length above 0, a stale one) is the only way to break them.
+#![allow(unsafe_code)]
+
+use std::mem::{offset_of, size_of};
+
+/// No command.
+pub const NO_COMMAND: u32 = 0xffff_ffff;
+
+/// A session as numbers. Those that its phase does not use are 0.
+#[repr(C)]
+#[derive(Clone, Copy, Debug, PartialEq, Eq)]
+pub struct Session {
+    pub mode: u32,
+    pub command: u32,
+    pub backend: u32,
+    pub phase: u32,
+    /// memory reads since opening
+    pub reads: u64,
+    /// packet: bytes held; response, table: declared length; switched, ended: the reply's length; between, region: the table's length
+    pub count: usize,
+    /// response, table: bytes filled; between: the entry to go on from; region: its entry
+    pub at: usize,
+    pub base: u64,
+    pub len: u64,
+    pub done: u64,
+    pub outstanding: u64,
+    /// 1: an empty read is due
+    pub due: u64,
+    pub window: [u8; 48],
+}
+
+/// What a step gives: the next session, the bytes taken, and an answer with its values (0 where it has none).
+#[repr(C)]
+#[derive(Clone, Copy, Debug, PartialEq, Eq)]
+pub struct Stepped {
+    pub session: Session,
+    pub taken: usize,
+    pub first: u64,
+    pub second: u64,
+    pub answer: u32,
+}
+
+/// An entry of the memory table; all 0 where `there` is 0.
+#[repr(C)]
+#[derive(Clone, Copy, Debug, PartialEq, Eq)]
+pub struct Entry {
+    pub save_pref: u64,
+    pub base: u64,
+    pub len: u64,
+    pub description: [u8; 20],
+    pub filename: [u8; 20],
+    pub there: u32,
+}
+
+/// A part of an image set's bytes, or a refusal.
+#[repr(C)]
+#[derive(Clone, Copy, Debug, PartialEq, Eq)]
+pub struct Range {
+    pub start: usize,
+    pub len: usize,
+    pub refused: u32,
+}
+
+/// A decoded packet, or a refusal and zeros.
+#[repr(C)]
+#[derive(Clone, Copy, Debug, PartialEq, Eq)]
+pub struct Packet {
+    pub refused: u32,
+    /// the kind's number
+    pub command: u32,
+    /// the length field
+    pub len: u32,
+    /// a hello's mode; the command of ExecuteResp and ExecuteData
+    pub value: u32,
+    /// the other numbers of the body, in order
+    pub first: u64,
+    pub second: u64,
+    pub third: u64,
+    pub unk0: u32,
+    pub unk1: u32,
+    pub unk2: u32,
+    pub unk3: u32,
+    pub unk4: u32,
+    pub unk5: u32,
+}
+
+// The layout that the archive was compiled for (x86-64, System V).
+const _: () = {
+    assert!(size_of::<usize>() == 8);
+    assert!(size_of::<Session>() == 128);
+    assert!(offset_of!(Session, phase) == 12);
+    assert!(offset_of!(Session, reads) == 16);
+    assert!(offset_of!(Session, count) == 24);
+    assert!(offset_of!(Session, at) == 32);
+    assert!(offset_of!(Session, base) == 40);
+    assert!(offset_of!(Session, len) == 48);
+    assert!(offset_of!(Session, done) == 56);
+    assert!(offset_of!(Session, outstanding) == 64);
+    assert!(offset_of!(Session, due) == 72);
+    assert!(offset_of!(Session, window) == 80);
+    assert!(size_of::<Stepped>() == 160);
+    assert!(offset_of!(Stepped, taken) == 128);
+    assert!(offset_of!(Stepped, first) == 136);
+    assert!(offset_of!(Stepped, second) == 144);
+    assert!(offset_of!(Stepped, answer) == 152);
+    assert!(size_of::<Entry>() == 72);
+    assert!(offset_of!(Entry, description) == 24);
+    assert!(offset_of!(Entry, filename) == 44);
+    assert!(offset_of!(Entry, there) == 64);
+    assert!(size_of::<Range>() == 24);
+    assert!(offset_of!(Range, refused) == 16);
+    assert!(size_of::<Packet>() == 64);
+    assert!(offset_of!(Packet, value) == 12);
+    assert!(offset_of!(Packet, first) == 16);
+    assert!(offset_of!(Packet, third) == 32);
+    assert!(offset_of!(Packet, unk0) == 40);
+    assert!(offset_of!(Packet, unk5) == 60);
+};
+
+// Unsafe: that these declarations agree with the archive is on us. The assertions above and the tests watch over it.
+unsafe extern "C" {
+    pub safe fn worgesli_open(mode: u32, command: u32, backend: u32) -> Session;
+    pub fn worgesli_step(
+        s: Session,
+        delivery: *const u8,
+        delivery_len: usize,
+        set: *const u8,
+        set_len: usize,
+        names: *const u8,
+        names_len: usize,
+        table: *mut u8,
+        table_len: usize,
+        reply: *mut u8,
+        reply_len: usize,
+        out: *mut u8,
+        out_len: usize,
+    ) -> Stepped;
+    pub safe fn worgesli_closed(s: Session) -> Stepped;
+    pub safe fn worgesli_is_session(s: Session) -> bool;
+    pub safe fn worgesli_wanted(s: Session) -> usize;
+    pub fn worgesli_check_images(set: *const u8, set_len: usize) -> u32;
+    pub fn worgesli_check_names(names: *const u8, names_len: usize) -> u32;
+    pub fn worgesli_image_range(set: *const u8, set_len: usize, id: u64, offset: u64, len: u64) -> Range;
+    pub fn worgesli_entry_at(table: *const u8, table_len: usize, i: usize) -> Entry;
+    pub fn worgesli_next_selected(
+        table: *const u8,
+        table_len: usize,
+        entries: usize,
+        names: *const u8,
+        names_len: usize,
+        from: usize,
+    ) -> usize;
+    pub fn worgesli_utf8(bytes: *const u8, bytes_len: usize) -> bool;
+    pub fn worgesli_parse_packet(bytes: *const u8, bytes_len: usize) -> Packet;
+    pub fn worgesli_reset(out: *mut u8, out_len: usize) -> u32;
+}
+
+/// One step of a session.
+#[inline]
+pub fn step(
+    s: Session,
+    delivery: &[u8],
+    set: &[u8],
+    names: &[u8],
+    table: &mut [u8],
+    reply: &mut [u8],
+    out: &mut [u8],
+) -> Stepped {
+    // Safe: each pair is a live slice, and no two of the mutable ones overlap another.
+    unsafe {
+        worgesli_step(
+            s,
+            delivery.as_ptr(),
+            delivery.len(),
+            set.as_ptr(),
+            set.len(),
+            names.as_ptr(),
+            names.len(),
+            table.as_mut_ptr(),
+            table.len(),
+            reply.as_mut_ptr(),
+            reply.len(),
+            out.as_mut_ptr(),
+            out.len(),
+        )
+    }
+}
+
+/// 0, or 1 for a malformed image set.
+pub fn check_images(set: &[u8]) -> u32 {
+    // Safe: a live slice, which is only read.
+    unsafe { worgesli_check_images(set.as_ptr(), set.len()) }
+}
+
+/// 0, or 2 for a malformed name list.
+pub fn check_names(names: &[u8]) -> u32 {
+    // Safe: a live slice, which is only read.
+    unsafe { worgesli_check_names(names.as_ptr(), names.len()) }
+}
+
+/// The part of an image set's bytes that a device asks for.
+pub fn image_range(set: &[u8], id: u64, offset: u64, len: u64) -> Range {
+    // Safe: a live slice, which is only read.
+    unsafe { worgesli_image_range(set.as_ptr(), set.len(), id, offset, len) }
+}
+
+/// Entry i of a table.
+pub fn entry_at(table: &[u8], i: usize) -> Entry {
+    // Safe: a live slice, which is only read.
+    unsafe { worgesli_entry_at(table.as_ptr(), table.len(), i) }
+}
+
+/// The first selected entry at or after `from`, else `entries`.
+pub fn next_selected(table: &[u8], entries: usize, names: &[u8], from: usize) -> usize {
+    let (table, table_len) = (table.as_ptr(), table.len());
+    // Safe: two live slices, which are only read.
+    unsafe { worgesli_next_selected(table, table_len, entries, names.as_ptr(), names.len(), from) }
+}
+
+/// Whether bytes are UTF-8.
+pub fn utf8(bytes: &[u8]) -> bool {
+    // Safe: a live slice, which is only read.
+    unsafe { worgesli_utf8(bytes.as_ptr(), bytes.len()) }
+}
+
+/// A packet decoded.
+pub fn parse_packet(bytes: &[u8]) -> Packet {
+    // Safe: a live slice, which is only read.
+    unsafe { worgesli_parse_packet(bytes.as_ptr(), bytes.len()) }
+}
+
+/// 0 and a Reset packet in the first 8 bytes, or 3.
+pub fn reset(out: &mut [u8]) -> u32 {
+    // Safe: a live slice, lent to us alone.
+    unsafe { worgesli_reset(out.as_mut_ptr(), out.len()) }
+}

@@ -1,0 +1,109 @@
+//! A session: what the host keeps from step to step.
+use crate::{raw, Answer, Backend, Command, Mode, Phase, Refusal};
+
+/// The least out buffer.
+pub const OUT: usize = 48;
+/// The longest memory table.
+pub const TABLE: usize = 65_536;
+
+/// A value: a copy of it is a session of its own.
+#[derive(Clone, Copy, Debug, PartialEq, Eq)]
+pub struct Session(raw::Session);
+
+impl Session {
+    pub fn open(mode: Mode, command: Option<Command>, backend: Backend) -> Session {
+        let command = command.map_or(raw::NO_COMMAND, |c| c as u32);
+        Session(raw::worgesli_open(mode as u32, command, backend as u32))
+    }
+
+    /// A session kept elsewhere as numbers, if they are one.
+    pub fn from_raw(numbers: raw::Session) -> Option<Session> {
+        raw::worgesli_is_session(numbers).then_some(Session(numbers))
+    }
+
+    pub fn raw(&self) -> &raw::Session {
+        &self.0
+    }
+
+    /// One step: gives the bytes taken of the delivery and what is to be done. Any bytes and buffers are answered.
+    pub fn step(
+        &mut self,
+        delivery: &[u8],
+        set: &[u8],
+        names: &[u8],
+        table: &mut [u8],
+        reply: &mut [u8],
+        out: &mut [u8],
+    ) -> (usize, Answer) {
+        let s = raw::step(self.0, delivery, set, names, table, reply, out);
+        self.set(&s);
+        (s.taken, answer(&s))
+    }
+
+    /// Goes on to what a step gave.
+    #[inline]
+    pub(crate) fn set(&mut self, s: &raw::Stepped) {
+        self.0 = s.session;
+    }
+
+    /// The channel was closed: refused (23), or (4) where the session had ended.
+    pub fn closed(&mut self) -> Answer {
+        let s = raw::worgesli_closed(self.0);
+        self.set(&s);
+        answer(&s)
+    }
+
+    /// How many bytes to read for the next step; 0: it needs none. A delivery of no more is taken whole, and who reads no more takes no
+    /// byte that belongs to what comes after Sahara.
+    #[inline]
+    pub fn wanted(&self) -> usize {
+        // in a region, where it is asked most, the number is at hand
+        if self.0.phase == Phase::Region as u32 {
+            return if self.0.due == 0 { self.0.outstanding as usize } else { 0 };
+        }
+        raw::worgesli_wanted(self.0)
+    }
+
+    #[inline]
+    pub fn phase(&self) -> Phase {
+        match self.0.phase {
+            0 => Phase::Packet,
+            1 => Phase::Response,
+            2 => Phase::Switched,
+            3 => Phase::Table,
+            4 => Phase::Between,
+            5 => Phase::Region,
+            _ => Phase::Ended,
+        }
+    }
+
+    /// Memory reads since opening.
+    pub fn reads(&self) -> u64 {
+        self.0.reads
+    }
+
+    /// The length of the reply: after finished (4), else 0.
+    pub fn reply_len(&self) -> usize {
+        match self.phase() {
+            Phase::Switched | Phase::Ended => self.0.count,
+            _ => 0,
+        }
+    }
+}
+
+/// What a step asks its caller to do.
+#[inline]
+pub(crate) fn answer(s: &raw::Stepped) -> Answer {
+    let (first, second) = (s.first as usize, s.second as usize);
+    match s.answer {
+        0 => Answer::Go,
+        1 => Answer::Send(first),
+        2 => Answer::Image { start: first, len: second },
+        3 => Answer::Open(first),
+        4 => Answer::Bytes(first),
+        5 => Answer::EmptyRead,
+        6 => Answer::Close(first),
+        7 => Answer::Finished { how: s.first as u8, reads: s.second },
+        _ => Answer::Refused(Refusal::new(s.first)),
+    }
+}

@@ -1,0 +1,246 @@
+//! Input that no honest caller gives: malformed bundles, bits that are no session, buffers of any length, NULL.
+use crate::guard::{Guarded, Side};
+use device::Rng;
+use std::ptr::{null, null_mut};
+use worgesli::{raw, Backend, Command, ImageSet, Mode, NameList, Session};
+
+const EMPTY: [u8; 8] = [0; 8];
+
+fn word(bytes: &[u8], at: usize) -> u64 {
+    u32::from_le_bytes(bytes[at..at + 4].try_into().unwrap()).into()
+}
+
+/// Document 01's paragraph on bundles.
+fn well_formed(b: &[u8], absent_allowed: bool) -> bool {
+    if b.len() < 8 {
+        return false;
+    }
+    let (n, d) = (word(b, 0), word(b, 4));
+    n <= 64
+        && b.len() as u64 == 8 + 8 * n + d
+        && (0..n as usize).all(|i| {
+            let (start, len) = (word(b, 8 + 4 * i), word(b, 8 + 4 * (n as usize + i)));
+            if (start, len) == (0xffff_ffff, 0) {
+                absent_allowed
+            } else {
+                start + len <= d
+            }
+        })
+}
+
+/// A bundle, good or not far from it.
+fn bundle(rng: &mut Rng) -> Vec<u8> {
+    let n = [0, 1, 2, 3, 63, 64][rng.below(6) as usize];
+    let slots: Vec<Option<Vec<u8>>> =
+        (0..n).map(|_| if rng.chance(300) { None } else { Some(vec![9; rng.below(6) as usize]) }).collect();
+    let mut b = ImageSet::new(&slots).unwrap().bytes().to_vec();
+    match rng.below(8) {
+        0 => b.truncate(rng.below(b.len() as u64 + 1) as usize),
+        1 => b.push(0),
+        2 | 3 => {
+            let at = rng.below(b.len() as u64) as usize;
+            b[at] = rng.number() as u8;
+        }
+        4 => {
+            let at = rng.below(b.len() as u64 / 4) as usize * 4;
+            b[at..at + 4].copy_from_slice(&[0xff; 4]);
+        }
+        5 => b[..4].copy_from_slice(&65u32.to_le_bytes()),
+        _ => {}
+    }
+    b
+}
+
+#[test]
+fn malformed_bundles() {
+    let mut rng = Rng::new(1);
+    let mut bad = [0, 0];
+    for i in 0..30_000 {
+        let side = if i % 2 == 0 { Side::Behind } else { Side::Before };
+        let b = Guarded::new(&bundle(&mut rng), side);
+        let (images, names) = (well_formed(&b, true), well_formed(&b, false));
+        bad[0] += u32::from(!images);
+        bad[1] += u32::from(!names);
+        assert_eq!(raw::check_images(&b), if images { 0 } else { 1 });
+        assert_eq!(raw::check_names(&b), if names { 0 } else { 2 });
+        assert_eq!(ImageSet::from_bytes(b.to_vec()).map(|s| s.bytes().to_vec()).ok(), images.then(|| b.to_vec()));
+        assert_eq!(NameList::from_bytes(b.to_vec()).is_ok(), names);
+        let s = *Session::open(Mode::WaitingForImage, None, Backend::Usb).raw();
+        let step = |set: &[u8], names: &[u8]| {
+            let r = raw::step(s, &[1], set, names, &mut [], &mut [], &mut [0; 48]);
+            (r.answer, r.first, r.taken)
+        };
+        assert_eq!(step(&b, &EMPTY), if images { (0, 0, 1) } else { (8, 1, 0) });
+        assert_eq!(step(&EMPTY, &b), if names { (0, 0, 1) } else { (8, 2, 0) });
+        // an image of a malformed set is none
+        assert!(images || raw::image_range(&b, 0, 0, 0) == raw::Range { start: 0, len: 0, refused: 1 });
+        // selection with any bytes for names comes to an end, at an entry that is there
+        let table = Guarded::new(&[b'A'; 200], side);
+        assert!(raw::next_selected(&table, 3, &b, 0) <= 3);
+    }
+    assert!(bad[0] > 5000 && bad[1] > 5000, "{bad:?}");
+}
+
+/// Numbers that are a session or nearly one.
+fn numbers(rng: &mut Rng) -> raw::Session {
+    let small = |rng: &mut Rng| match rng.below(8) {
+        0 => rng.number(),
+        1 => u64::MAX - rng.below(3),
+        2 => 1 << 63,
+        3 => rng.below(70_000),
+        _ => rng.below(200),
+    };
+    let phase = rng.below(8) as u32;
+    let mut s = raw::Session {
+        mode: [0, 2, 3, 1][(rng.below(16) as usize).saturating_sub(12)],
+        command: [0, 3, 0xffff_ffff, 4][(rng.below(16) as usize).saturating_sub(12)],
+        backend: (rng.below(16) / 7) as u32,
+        phase,
+        reads: small(rng),
+        count: small(rng) as usize,
+        at: 0,
+        base: 0,
+        len: 0,
+        done: 0,
+        outstanding: 0,
+        due: 0,
+        window: [0; 48],
+    };
+    if matches!(phase, 1 | 3 | 4 | 5) || rng.chance(20) {
+        s.at = small(rng) as usize;
+    }
+    if phase == 5 || rng.chance(20) {
+        (s.base, s.len) = (small(rng), small(rng));
+        (s.done, s.outstanding) = (rng.below(s.len.max(1)), rng.below(s.len.max(1)));
+        s.due = rng.below(16) / 7;
+    }
+    rng.fill(&mut s.window);
+    s.window[4..8].copy_from_slice(&(rng.below(300) as u32).to_le_bytes());
+    s
+}
+
+/// Any bits at all are answered, in any buffers, and only a session's step changes anything.
+#[test]
+fn bits_that_are_no_session() {
+    let mut rng = Rng::new(2);
+    let (mut none, mut some) = (0, 0);
+    for i in 0..40_000 {
+        let side = if i % 2 == 0 { Side::Behind } else { Side::Before };
+        let s = numbers(&mut rng);
+        let mut bytes = |most: u64| {
+            let mut b = vec![0; rng.below(most + 1) as usize];
+            rng.fill(&mut b);
+            Guarded::new(&b, side)
+        };
+        let (delivery, mut table, mut reply, mut out) = (bytes(300), bytes(300), bytes(150), bytes(100));
+        let was = (table.to_vec(), reply.to_vec(), out.to_vec());
+        let r = raw::step(s, &delivery, &EMPTY, &EMPTY, &mut table, &mut reply, &mut out);
+        [&mut table, &mut reply, &mut out].into_iter().for_each(Guarded::check);
+        let closed = raw::worgesli_closed(s);
+        if !raw::worgesli_is_session(s) {
+            none += 1;
+            let refused = raw::Stepped { session: s, taken: 0, first: 18, second: 0, answer: 8 };
+            assert_eq!((r, closed, raw::worgesli_wanted(s)), (refused, refused, 0));
+            assert!(*table == *was.0 && *reply == *was.1 && *out == *was.2);
+            continue;
+        }
+        some += 1;
+        assert_eq!(Session::from_raw(s).unwrap().wanted(), raw::worgesli_wanted(s));
+        // the next value is a session too, and the answer stays within what was lent
+        assert!(raw::worgesli_is_session(r.session) && raw::worgesli_is_session(closed.session));
+        assert!(r.taken <= delivery.len() && (r.taken == 0 || raw::worgesli_wanted(s) > 0));
+        match r.answer {
+            0 | 5 | 6 => {}
+            1 => assert!(r.first <= 48),
+            2 => panic!("an image of an empty set"),
+            3 => assert!(r.first < table.len() as u64 / 64),
+            4 => assert!(r.first == r.taken as u64),
+            7 => assert!((1..=4).contains(&r.first) && r.session.phase == 6),
+            8 => assert!((3..=22).contains(&r.first)),
+            a => panic!("answer {a}"),
+        }
+        if r.answer == 8 && matches!(r.first, 3 | 4 | 18) {
+            assert!(r.session == s && r.taken == 0);
+            assert!(*table == *was.0 && *reply == *was.1);
+        }
+        if r.answer != 1 {
+            assert!(*out == *was.2);
+        }
+        assert_eq!((closed.answer, closed.first, closed.taken), (8, if s.phase == 6 { 4 } else { 23 }, 0));
+    }
+    assert!(none > 5000 && some > 5000, "{none} {some}");
+}
+
+/// Opening with numbers that name none gives a value that is no session.
+#[test]
+fn opened_with_nonsense() {
+    for mode in 0..5 {
+        for command in [0, 1, 2, 3, 4, 0xffff_fffe, 0xffff_ffff] {
+            for backend in 0..3 {
+                let named = [0, 2, 3].contains(&mode) && (command < 4 || command == raw::NO_COMMAND) && backend < 2;
+                let s = raw::worgesli_open(mode, command, backend);
+                assert_eq!(raw::worgesli_is_session(s), named);
+                assert_eq!(raw::worgesli_wanted(s), if named { 8 } else { 0 });
+            }
+        }
+    }
+}
+
+/// NULL with length 0 in each place.
+#[test]
+fn null_with_length_0() {
+    let s = *Session::open(Mode::Command, Some(Command::Nop), Backend::Serial).raw();
+    let (e, n) = (EMPTY.as_ptr(), null::<u8>());
+    let mut out = [0u8; 48];
+    let o = out.as_mut_ptr();
+    let m = null_mut::<u8>();
+    // Safe: each pair is a live buffer, or NULL and 0.
+    let (none, set, both, all) = unsafe {
+        (
+            raw::worgesli_step(s, n, 0, n, 0, n, 0, m, 0, m, 0, m, 0),
+            raw::worgesli_step(s, n, 0, e, 8, n, 0, m, 0, m, 0, m, 0),
+            raw::worgesli_step(s, n, 0, e, 8, e, 8, m, 0, m, 0, m, 0),
+            raw::worgesli_step(s, n, 0, e, 8, e, 8, m, 0, m, 0, o, 48),
+        )
+    };
+    let numbers = |r: raw::Stepped| (r.answer, r.first, r.taken, r.session == s);
+    assert_eq!(numbers(none), (8, 1, 0, true));
+    assert_eq!(numbers(set), (8, 2, 0, true));
+    assert_eq!(numbers(both), (8, 3, 0, true));
+    assert_eq!(numbers(all), (0, 0, 0, true));
+    // Safe: NULL and 0.
+    unsafe {
+        assert_eq!(raw::worgesli_check_images(n, 0), 1);
+        assert_eq!(raw::worgesli_check_names(n, 0), 2);
+        assert_eq!(raw::worgesli_image_range(n, 0, 0, 0, 0), raw::Range { start: 0, len: 0, refused: 1 });
+        assert_eq!(raw::worgesli_entry_at(n, 0, 0).there, 0);
+        assert_eq!(raw::worgesli_next_selected(n, 0, 0, n, 0, 0), 0);
+        assert!(raw::worgesli_utf8(n, 0));
+        assert_eq!(raw::worgesli_parse_packet(n, 0).refused, 9);
+        assert_eq!(raw::worgesli_reset(m, 0), 3);
+    }
+}
+
+/// In each phase: 3 below 48 bytes of out, 18 below the declared length of the table.
+#[test]
+fn short_buffers() {
+    let mut s = Session::open(Mode::MemoryDebug, None, Backend::Usb);
+    let entry = device::Region::new("A.BIN", 4096, 512).bytes();
+    let mut table = [0; 64];
+    let said: [&[u8]; 6] = [&device::mem_debug64(0, 64), &entry, &[], &[], &[7; 512], &[]];
+    for (i, delivery) in said.into_iter().enumerate() {
+        for out in 0..48 {
+            let mut out = Guarded::new(&vec![0; out], Side::Behind);
+            let r = raw::step(*s.raw(), delivery, &EMPTY, &EMPTY, &mut table, &mut [], &mut out);
+            assert_eq!((r.answer, r.first, r.taken, r.session), (8, 3, 0, *s.raw()));
+        }
+        for short in (0..64).filter(|_| i > 0) {
+            let mut short = Guarded::new(&table[..short], Side::Behind);
+            let r = raw::step(*s.raw(), delivery, &EMPTY, &EMPTY, &mut short, &mut [], &mut [0; 48]);
+            assert_eq!((r.answer, r.first, r.taken, r.session), (8, 18, 0, *s.raw()));
+        }
+        s.step(delivery, &EMPTY, &EMPTY, &mut table, &mut [], &mut [0; 48]);
+    }
+    // packet, table, open, memory read, bytes, empty read
+    assert_eq!((s.raw().phase, s.raw().done, s.raw().due, s.reads()), (5, 512, 0, 2));
+}

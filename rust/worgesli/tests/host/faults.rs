@@ -1,0 +1,437 @@
+//! The driver against channels and sinks that fail.
+use crate::world::{world, Kept, Record, World};
+use device::{Device, Division, Faults, Memory, Region, Turn, Wire};
+use std::io::{self, ErrorKind, Read, Write};
+use worgesli::{sahara_run, Answer, Backend, Command, Count, Driver, Entry, Error, Mode, Outcome, Phase, Session, Sink};
+
+const NO_IMAGES: &[Option<Vec<u8>>] = &[];
+const NO_NAMES: &[&str] = &[];
+
+fn driver(w: &World) -> Driver {
+    Driver::new(w.backend, Mode::MemoryDebug, None, NO_IMAGES, &w.names).unwrap()
+}
+
+fn wire(w: &World, seed: u64, faults: Faults) -> Wire {
+    Wire::new(Device::dump(w.memory.clone()), Division::Random, seed).with(faults)
+}
+
+/// Calls `run` until it neither times out nor loses a byte; gives how often it timed out.
+fn run_on(driver: &mut Driver, wire: &mut Wire, sink: &mut Record) -> (Outcome, u64) {
+    let mut times = 0;
+    loop {
+        match driver.run(wire, sink, |_| ()) {
+            Err(Error::TimedOut(_)) if times < 10_000 => times += 1,
+            end => return (end.unwrap(), times),
+        }
+    }
+}
+
+/// Interrupted calls, time-outs and short writes, each with a run called again, cost no byte and no memory read.
+#[test]
+fn time_outs_lose_nothing() {
+    let mut times = 0;
+    for seed in 0..2000 {
+        let w = world(seed);
+        let faults = Faults {
+            interrupted: 200,
+            timed_out: 100,
+            would_block: 100,
+            short_writes: seed % 2 == 0,
+            buffered: seed % 3 == 0,
+            ..Faults::default()
+        };
+        let mut wire = wire(&w, seed, faults);
+        let mut sink = Record::default();
+        let (outcome, timed_out) = run_on(&mut driver(&w), &mut wire, &mut sink);
+        assert_eq!(outcome, Outcome::Dumped { reads: w.memory_reads() }, "seed {seed}");
+        assert_eq!(sink.0, w.kept(), "seed {seed}");
+        assert_eq!(wire.device.wrong(), None, "seed {seed}");
+        assert_eq!((wire.device.reads(), wire.empty_reads), (w.memory_reads(), w.empty_reads()), "seed {seed}");
+        times += timed_out;
+    }
+    assert!(times > 2000, "{times}");
+}
+
+/// The same for images and replies: what the device hears and says is whole.
+#[test]
+fn time_outs_in_images_and_replies() {
+    for seed in 0..500 {
+        let (short_writes, buffered) = (seed % 2 == 0, seed % 3 == 0);
+        let faults = Faults { interrupted: 150, timed_out: 150, would_block: 150, short_writes, buffered, ..Faults::default() };
+        let mut rng = device::Rng::new(seed);
+        let mut bytes = vec![0; rng.below(6000) as usize];
+        rng.fill(&mut bytes);
+        let run = |device, mode, command, images: &[Option<Vec<u8>>]| {
+            let mut wire = Wire::new(device, Division::Random, seed).with(faults);
+            let mut driver = Driver::new(Backend::Usb, mode, command, images, NO_NAMES).unwrap();
+            let (outcome, _) = run_on(&mut driver, &mut wire, &mut Record::default());
+            (outcome, wire.device.heard().to_vec(), wire.device.queued())
+        };
+        let n = bytes.len() as u32;
+        let device = Device::load(&[(5, 0, n), (5, n / 2, n - n / 2)], b"loader");
+        let (outcome, heard, left) = run(device, Mode::WaitingForImage, None, &[Some(bytes.clone())]);
+        assert_eq!((outcome, left), (Outcome::ImagesSent, 6));
+        let sent = [&bytes[..], &bytes[n as usize / 2..], &device::packet(5, &[])].concat();
+        assert!(heard[48..] == sent, "seed {seed}");
+        let device = Device::command(1, &bytes, b"next");
+        let (outcome, heard, left) = run(device, Mode::Command, Some(Command::ReadSerialNum), NO_IMAGES);
+        assert_eq!((outcome, left), (Outcome::Reply(bytes), 4));
+        assert_eq!(heard[48..], [device::packet(0x0d, &[1]), device::packet(0x0f, &[1]), device::packet(0x0c, &[0])].concat());
+    }
+}
+
+/// The one-shot form bears as many time-outs in a row as it is told, and no more.
+#[test]
+fn time_outs_in_a_row() {
+    struct Silent(Wire, u32);
+    impl Read for Silent {
+        fn read(&mut self, to: &mut [u8]) -> io::Result<usize> {
+            // before each read that is answered, so many that are not
+            if self.1 > 0 {
+                self.1 -= 1;
+                return Err(ErrorKind::WouldBlock.into());
+            }
+            self.1 = 3;
+            self.0.read(to)
+        }
+    }
+    impl Write for Silent {
+        fn write(&mut self, bytes: &[u8]) -> io::Result<usize> {
+            self.0.write(bytes)
+        }
+        fn flush(&mut self) -> io::Result<()> {
+            self.0.flush()
+        }
+    }
+    for (borne, good) in [(0, false), (2, false), (3, true), (4, true)] {
+        let regions = [Region::new("A.BIN", 0, 9000)];
+        let mut channel = Silent(Wire::new(Device::dump(Memory::new(1, 1 << 40, &regions)), Division::AtMost(1000), 1), 3);
+        let mut sink = Count::default();
+        let end = sahara_run(&mut channel, Backend::Usb, Mode::MemoryDebug, None, NO_IMAGES, NO_NAMES, &mut sink, |_| (), borne);
+        match end {
+            Ok(end) => assert_eq!((end, sink.bytes, good), (Outcome::Dumped { reads: 4 }, 9000, true)),
+            Err(e) => assert!(matches!(e, Error::TimedOut(_)) && !good, "{e}"),
+        }
+    }
+}
+
+/// A device that is gone, after any byte: 23, and what came so far is the beginning of what was due.
+#[test]
+fn gone_after_each_byte() {
+    let regions = [Region::new("A.BIN", 77, 600), Region::new("B.BIN", 9, 0), Region::new("C.BIN", 1 << 63, 513)];
+    let memory = Memory::new(5, 1 << 40, &regions);
+    let total = 48 + 24 + 192 + 600 + 513;
+    for backend in [Backend::Serial, Backend::Usb] {
+        let w = World { memory: memory.clone(), regions: regions.to_vec(), names: vec![], backend };
+        for end in 0..=total {
+            let mut wire = wire(&w, end, Faults { ends_after: Some(end), ..Faults::default() });
+            let mut sink = Record::default();
+            let mut driver = driver(&w);
+            let ended = driver.run(&mut wire, &mut sink, |_| ());
+            if end == total {
+                assert_eq!(ended.unwrap(), Outcome::Dumped { reads: 3 });
+                assert_eq!(sink.0, w.kept());
+                continue;
+            }
+            assert_eq!(ended.unwrap_err().number(), Some(23));
+            assert_eq!(driver.session().phase(), Phase::Ended);
+            assert_eq!(driver.run(&mut wire, &mut sink, |_| ()).unwrap_err().number(), Some(4));
+            beginning(&sink.0, &w.kept(), end.saturating_sub(48 + 24 + 192));
+        }
+    }
+}
+
+/// `came` is a beginning of `due` and has so many bytes.
+fn beginning(came: &[Kept], due: &[Kept], bytes: u64) {
+    assert!(came.len() <= due.len());
+    for (c, d) in came.iter().zip(due) {
+        assert!(d.bytes.starts_with(&c.bytes) && c.place == d.place && c.filename == d.filename);
+        assert!(!c.closed || c.bytes == d.bytes);
+    }
+    assert_eq!(came.iter().map(|c| c.bytes.len() as u64).sum::<u64>(), bytes);
+    assert!(came.iter().rev().skip(1).all(|c| c.closed));
+}
+
+/// An error of the channel ends the call and not the session: with the fault gone, the run goes on.
+#[test]
+fn errors_of_the_channel() {
+    for seed in 0..500 {
+        let w = world(seed);
+        let kind = [ErrorKind::ConnectionReset, ErrorKind::BrokenPipe, ErrorKind::Other][seed as usize % 3];
+        let mut wire = wire(&w, seed, Faults { fails_after: Some((seed % 300, kind)), ..Faults::default() });
+        let mut sink = Record::default();
+        let mut driver = driver(&w);
+        match driver.run(&mut wire, &mut sink, |_| ()) {
+            Err(Error::Channel(e)) => assert_eq!(e.kind(), kind),
+            // fewer bytes than that in all
+            end => assert_eq!(end.unwrap(), Outcome::Dumped { reads: w.memory_reads() }),
+        }
+        if sink.0 != w.kept() || driver.session().phase() != Phase::Ended {
+            wire.faults = Faults::default();
+            assert_eq!(driver.run(&mut wire, &mut sink, |_| ()).unwrap(), Outcome::Dumped { reads: w.memory_reads() });
+        }
+        assert_eq!(sink.0, w.kept(), "seed {seed}");
+    }
+}
+
+/// A sink that takes a part and fails now and then: nothing is lost, nothing comes twice.
+#[test]
+fn errors_of_the_sink() {
+    struct Poor(Record, device::Rng);
+    impl Poor {
+        fn fault(&mut self) -> io::Result<()> {
+            match self.1.below(6) {
+                0 => Err(ErrorKind::StorageFull.into()),
+                1 => Err(ErrorKind::Interrupted.into()),
+                _ => Ok(()),
+            }
+        }
+    }
+    impl Sink for Poor {
+        fn open(&mut self, place: usize, entry: &Entry) -> io::Result<()> {
+            self.fault()?;
+            self.0.open(place, entry)
+        }
+        fn bytes(&mut self, bytes: &[u8]) -> io::Result<usize> {
+            self.fault()?;
+            let n = self.1.piece(bytes.len());
+            self.0.bytes(&bytes[..n])
+        }
+        fn close(&mut self, place: usize) -> io::Result<()> {
+            self.fault()?;
+            self.0.close(place)
+        }
+    }
+    let mut failed = 0;
+    for seed in 0..1000 {
+        let w = world(seed);
+        let mut wire = wire(&w, seed, Faults::default());
+        let mut sink = Poor(Record::default(), device::Rng::new(seed));
+        let mut driver = driver(&w);
+        let outcome = loop {
+            match driver.run(&mut wire, &mut sink, |_| ()) {
+                Err(Error::Sink(e)) => assert_eq!(e.kind(), ErrorKind::StorageFull),
+                end => break end.unwrap(),
+            }
+            failed += 1;
+        };
+        assert_eq!(outcome, Outcome::Dumped { reads: w.memory_reads() });
+        assert_eq!(sink.0 .0, w.kept(), "seed {seed}");
+        assert_eq!(wire.device.wrong(), None);
+    }
+    assert!(failed > 1000, "{failed}");
+}
+
+/// Channels and sinks that take nothing, or say that they moved more than they were lent.
+#[test]
+fn liars() {
+    struct Liar {
+        read: usize,
+        written: usize,
+    }
+    impl Read for Liar {
+        fn read(&mut self, to: &mut [u8]) -> io::Result<usize> {
+            let n = to.len().min(48);
+            to[..n].copy_from_slice(&device::hello(2)[..n]);
+            Ok(if self.read > 0 { self.read } else { n })
+        }
+    }
+    impl Write for Liar {
+        fn write(&mut self, _: &[u8]) -> io::Result<usize> {
+            Ok(self.written)
+        }
+        fn flush(&mut self) -> io::Result<()> {
+            Ok(())
+        }
+    }
+    struct Greedy(usize);
+    impl Sink for Greedy {
+        fn open(&mut self, _: usize, _: &Entry) -> io::Result<()> {
+            Ok(())
+        }
+        fn bytes(&mut self, _: &[u8]) -> io::Result<usize> {
+            Ok(self.0)
+        }
+        fn close(&mut self, _: usize) -> io::Result<()> {
+            Ok(())
+        }
+    }
+    let kind = |end: Result<Outcome, Error>| match end.unwrap_err() {
+        Error::Channel(e) | Error::Sink(e) => e.kind(),
+        e => panic!("{e}"),
+    };
+    let new = || Driver::new(Backend::Serial, Mode::MemoryDebug, None, NO_IMAGES, NO_NAMES).unwrap();
+    for read in [9, 100_000, usize::MAX] {
+        let mut channel = Liar { read, written: 48 };
+        assert_eq!(kind(new().run(&mut channel, &mut Count::default(), |_| ())), ErrorKind::InvalidData);
+    }
+    for (written, error) in [(0, ErrorKind::WriteZero), (49, ErrorKind::InvalidData), (usize::MAX, ErrorKind::InvalidData)] {
+        // a hello in two reads: 8 bytes, then 40
+        struct Two(Liar, usize);
+        impl Read for Two {
+            fn read(&mut self, to: &mut [u8]) -> io::Result<usize> {
+                let n = to.len().min(48 - self.1);
+                to[..n].copy_from_slice(&device::hello(2)[self.1..self.1 + n]);
+                self.1 += n;
+                Ok(n)
+            }
+        }
+        impl Write for Two {
+            fn write(&mut self, bytes: &[u8]) -> io::Result<usize> {
+                self.0.write(bytes)
+            }
+            fn flush(&mut self) -> io::Result<()> {
+                Ok(())
+            }
+        }
+        let mut channel = Two(Liar { read: 0, written }, 0);
+        assert_eq!(kind(new().run(&mut channel, &mut Count::default(), |_| ())), error);
+    }
+    for (taken, error) in [(0, ErrorKind::WriteZero), (5000, ErrorKind::InvalidData), (usize::MAX, ErrorKind::InvalidData)] {
+        let memory = Memory::new(1, 1 << 40, &[Region::new("A", 0, 4999)]);
+        let mut wire = Wire::new(Device::dump(memory), Division::Whole, 1);
+        assert_eq!(kind(new().run(&mut wire, &mut Greedy(taken), |_| ())), error);
+    }
+}
+
+/// An empty read that times out is made again, or counted as made.
+#[test]
+fn empty_reads_that_time_out() {
+    struct NoEmptyPackets(Wire, u32);
+    impl Read for NoEmptyPackets {
+        fn read(&mut self, to: &mut [u8]) -> io::Result<usize> {
+            if to.is_empty() && self.1 > 0 {
+                self.1 -= 1;
+                return Err(ErrorKind::TimedOut.into());
+            }
+            self.0.read(to)
+        }
+    }
+    impl Write for NoEmptyPackets {
+        fn write(&mut self, bytes: &[u8]) -> io::Result<usize> {
+            self.0.write(bytes)
+        }
+        fn flush(&mut self) -> io::Result<()> {
+            self.0.flush()
+        }
+    }
+    for skip in [false, true] {
+        let memory = Memory::new(1, 1 << 40, &[Region::new("A", 0, 8192)]);
+        let mut channel = NoEmptyPackets(Wire::new(Device::dump(memory), Division::Random, 1), 2);
+        let mut driver = Driver::new(Backend::Usb, Mode::MemoryDebug, None, NO_IMAGES, NO_NAMES).unwrap();
+        let mut sink = Count::default();
+        for _ in 0..2 {
+            assert!(matches!(driver.run(&mut channel, &mut sink, |_| ()), Err(Error::TimedOut(_))));
+            if skip {
+                driver.skip_empty_read();
+            }
+        }
+        assert_eq!(driver.run(&mut channel, &mut sink, |_| ()).unwrap(), Outcome::Dumped { reads: 3 });
+        assert_eq!((sink.bytes, channel.0.empty_reads), (8192, if skip { 0 } else { 2 }));
+    }
+    // none ever comes: the one-shot form goes on without it
+    for timeouts in [0, 3] {
+        let memory = Memory::new(1, 1 << 40, &[Region::new("A", 0, 8192)]);
+        let mut channel = NoEmptyPackets(Wire::new(Device::dump(memory), Division::Random, 1), u32::MAX);
+        let mut sink = Count::default();
+        let end = sahara_run(&mut channel, Backend::Usb, Mode::MemoryDebug, None, NO_IMAGES, NO_NAMES, &mut sink, |_| (), timeouts);
+        assert_eq!(end.unwrap(), Outcome::Dumped { reads: 3 });
+        assert_eq!((sink.bytes, u32::MAX - channel.1), (8192, 2 * (timeouts + 1)));
+    }
+}
+
+/// What a device says, and the refusal that a run ends with.
+fn refused(said: Vec<u8>, mode: Mode, images: &[Option<Vec<u8>>]) -> u8 {
+    let mut numbers = Vec::new();
+    for division in [Division::Whole, Division::AtMost(1), Division::Random] {
+        let mut wire = Wire::new(Device::new(Memory::empty(), vec![Turn::Say(said.clone())]), division, 9);
+        wire.faults.ends_after = Some(said.len() as u64);
+        let mut sink = Count::default();
+        let end = sahara_run(&mut wire, Backend::Serial, mode, None, images, NO_NAMES, &mut sink, |_| (), 0);
+        let e = end.unwrap_err();
+        let number = e.number().unwrap();
+        assert!(e.to_string().starts_with(&format!("refused ({number}): ")), "{e}");
+        numbers.push(number);
+    }
+    assert!(numbers.iter().all(|n| *n == numbers[0]), "{numbers:?}");
+    numbers[0]
+}
+
+/// Every refusal that a device can bring about, by its number.
+#[test]
+fn refusals_of_a_packet() {
+    use device::*;
+    let image = [Some(vec![1; 10])];
+    let two = [Some(vec![1; 10]), None];
+    type Images<'a> = &'a [Option<Vec<u8>>];
+    let cases: [(u8, Vec<u8>, Images); 26] = [
+        (5, packet(1, &[])[..4].iter().copied().chain([7, 0, 0, 0]).collect(), &image),
+        (5, packet(1, &[])[..4].iter().copied().chain(4097u32.to_le_bytes()).collect(), &image),
+        (6, packet(0x15, &[]), &image),
+        (6, packet(0, &[]), &image),
+        (7, packet(0x6d78_3f3c, &[]), &image),
+        (8, packet(9, &[1, 2]), &image),
+        (9, packet(1, &[2, 1]), &image),
+        (9, hello(1), &image),
+        (10, packet(2, &[2, 1, 0, 0, 0, 0, 0, 0, 0, 0]), &image),
+        (10, packet(5, &[]), &image),
+        (10, packet(0x0f, &[1]), &image),
+        (10, packet64(0x11, &[1, 2]), &image),
+        (11, packet(1, &[2, 1, 4096, 0, 0, 0, 0, 0, 0, 0, 0]), &image),
+        (11, packet(8, &[0]), &image),
+        (12, read_data(0, 0, 1), NO_IMAGES),
+        (12, read_data(1, 0, 1), &two),
+        (12, read_data(2, 0, 1), &two),
+        (12, read_data64(1 << 32, 0, 1), &two),
+        (13, read_data(9, 4, 7), &image),
+        (13, read_data64(9, u64::MAX, u64::MAX), &image),
+        (14, end_of_image(0, 1), &image),
+        (15, command_ready(), &image),
+        (16, execute_resp(1, 65_537), &image),
+        (17, mem_debug64(0, 65_537), &image),
+        (17, mem_debug64(0, u64::MAX), &image),
+        (23, hello(2)[..47].to_vec(), &image),
+    ];
+    for (number, said, images) in cases {
+        assert_eq!(refused(said.clone(), Mode::WaitingForImage, images), number, "{said:?}");
+    }
+}
+
+/// The refusals of a region: by its filename and its end.
+#[test]
+fn refusals_of_a_region() {
+    let named = |name: &[u8], base, len| Region::new(name, base, len);
+    let cases = [
+        (19, named(b"ABCDEFGHIJKLMNOPQRST", 0, 1)),
+        (20, named(b"A\xffB", 0, 1)),
+        (21, named(b"A\0\xff", 0, 1)),
+        (22, named(b"A", u64::MAX, 2)),
+        (22, named(b"A", 2, u64::MAX)),
+    ];
+    for (number, region) in cases {
+        for seed in 0..20 {
+            // one good region before it
+            let good = Region::new("GOOD.BIN", 3, 5000);
+            let memory = Memory::new(seed, 1 << 40, &[good, region]);
+            let mut wire = Wire::new(Device::dump(memory.clone()), Division::Random, seed);
+            let mut sink = Record::default();
+            let end = sahara_run(&mut wire, Backend::Usb, Mode::MemoryDebug, None, NO_IMAGES, NO_NAMES, &mut sink, |_| (), 0);
+            assert_eq!(end.unwrap_err().number(), Some(number));
+            assert_eq!(sink.0[0].bytes, memory.bytes(3, 5000));
+            assert_eq!((sink.0.len(), wire.device.reads()), (if number < 21 { 1 } else { 2 }, 3));
+        }
+    }
+}
+
+/// Closing ends a session once: 23, then 4.
+#[test]
+fn closed_by_hand() {
+    let mut s = Session::open(Mode::Command, Some(Command::Nop), Backend::Usb);
+    let number = |a| match a {
+        Answer::Refused(why) => why.number(),
+        a => panic!("{a:?}"),
+    };
+    assert_eq!(number(s.closed()), 23);
+    assert_eq!((s.phase(), s.wanted()), (Phase::Ended, 0));
+    assert_eq!(number(s.closed()), 4);
+}

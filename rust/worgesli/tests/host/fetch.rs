@@ -1,0 +1,141 @@
+//! The driver against the device, over divisions at random.
+use crate::world::{world, Record, World};
+use device::{Device, Division, Memory, Region, Rng, Wire};
+use worgesli::{sahara_run, Backend, Command, Count, Driver, Mode, Outcome, Progress};
+
+const NO_IMAGES: &[Option<Vec<u8>>] = &[];
+const NO_NAMES: &[&str] = &[];
+
+fn fetch(w: &World, wire: &mut Wire) -> Record {
+    let mut sink = Record::default();
+    let dumped = sahara_run(wire, w.backend, Mode::MemoryDebug, None, NO_IMAGES, &w.names, &mut sink, |_| (), 0).unwrap();
+    assert_eq!(dumped, Outcome::Dumped { reads: w.memory_reads() });
+    sink
+}
+
+/// Each region as the memory holds it, in the table's order, whatever the division.
+#[test]
+fn every_division_gives_the_memory() {
+    for seed in 0..4000 {
+        let w = world(seed);
+        let division = match seed % 8 {
+            0 => Division::Whole,
+            1 => Division::AtMost(1),
+            2 => Division::AtMost(511),
+            _ => Division::Random,
+        };
+        let mut wire = Wire::new(Device::dump(w.memory.clone()), division, seed);
+        let sink = fetch(&w, &mut wire);
+        assert_eq!(sink.0, w.kept(), "seed {seed}");
+        assert_eq!(wire.device.wrong(), None, "seed {seed}");
+        assert_eq!(wire.device.reads(), w.memory_reads(), "seed {seed}");
+        assert_eq!(wire.empty_reads, w.empty_reads(), "seed {seed}");
+        assert_eq!((wire.device.queued(), wire.unflushed), (0, 0), "seed {seed}");
+    }
+}
+
+/// HelloResp has the session's mode, whatever the device offers.
+#[test]
+fn hello_response() {
+    for mode in [Mode::WaitingForImage, Mode::MemoryDebug, Mode::Command] {
+        let turns = vec![device::Turn::Say(device::hello(2)), device::Turn::Hear(48), device::Turn::Say(device::reset_resp())];
+        let mut wire = Wire::new(Device::new(Memory::empty(), turns), Division::Random, 3);
+        let end = sahara_run(&mut wire, Backend::Usb, mode, None, NO_IMAGES, NO_NAMES, &mut Count::default(), |_| (), 0);
+        assert_eq!(end.unwrap(), Outcome::Reset);
+        assert_eq!(wire.device.heard(), device::packet(2, &[2, 1, 0, mode as u32, 0, 0, 0, 0, 0, 0]));
+    }
+}
+
+/// Images go out as asked, and what the loader says after Sahara stays in the channel.
+#[test]
+fn images_and_the_loader_after_them() {
+    let loader = b"<?xml version=\"1.0\"?><data><log value=\"hello\"/></data>";
+    for seed in 0..1000 {
+        let mut rng = Rng::new(seed);
+        let images: Vec<Option<Vec<u8>>> = (0..1 + rng.below(5))
+            .map(|_| {
+                let mut image = vec![0; rng.below(9000) as usize];
+                rng.fill(&mut image);
+                Some(image)
+            })
+            .collect();
+        let mut asked = Vec::new();
+        let mut sent = Vec::new();
+        for _ in 0..rng.below(6) {
+            let id = rng.below(images.len() as u64) as usize;
+            let image = images[id].as_deref().unwrap();
+            let offset = rng.below(image.len() as u64 + 1) as usize;
+            let len = rng.below((image.len() - offset) as u64 + 1) as usize;
+            // with one image any ID means it
+            asked.push((if images.len() == 1 { 13 } else { id as u32 }, offset as u32, len as u32));
+            sent.extend_from_slice(&image[offset..offset + len]);
+        }
+        let mut wire = Wire::new(Device::load(&asked, loader), Division::Random, seed);
+        wire.faults.short_writes = true;
+        let mut sink = Count::default();
+        let end = sahara_run(&mut wire, Backend::Serial, Mode::WaitingForImage, None, &images, NO_NAMES, &mut sink, |_| (), 0);
+        assert_eq!(end.unwrap(), Outcome::ImagesSent, "seed {seed}");
+        let heard = wire.device.heard();
+        assert_eq!(&heard[48..heard.len() - 8], sent, "seed {seed}");
+        assert_eq!(heard[heard.len() - 8..], device::packet(5, &[]));
+        let mut rest = vec![0; 100];
+        let n = wire.device.say(&mut rest);
+        assert_eq!(&rest[..n], loader, "seed {seed}");
+        assert_eq!(sink, Count::default());
+    }
+}
+
+/// A command's reply, of any length up to the reply buffer; what comes after SwitchMode stays in the channel.
+#[test]
+fn replies() {
+    for (seed, len) in [0, 1, 4, 7, 8, 32, 511, 512, 4096, 5000, 65_536].into_iter().enumerate() {
+        let mut reply = vec![0; len];
+        Rng::new(seed as u64).fill(&mut reply);
+        let next = device::hello(0);
+        let mut wire = Wire::new(Device::command(3, &reply, &next), Division::Random, seed as u64);
+        let command = Some(Command::ReadOemKeyHash);
+        let end =
+            sahara_run(&mut wire, Backend::Usb, Mode::Command, command, NO_IMAGES, NO_NAMES, &mut Count::default(), |_| (), 0);
+        assert_eq!(end.unwrap(), Outcome::Reply(reply));
+        let (hello, said) = wire.device.heard().split_at(48);
+        assert_eq!(hello[20], 3);
+        let (execute, data, switch) = (device::packet(0x0d, &[3]), device::packet(0x0f, &[3]), device::packet(0x0c, &[0]));
+        assert_eq!(said, [execute, data, switch].concat());
+        assert_eq!((wire.device.queued(), wire.empty_reads), (next.len() as u64, 0));
+    }
+}
+
+/// Progress grows to each region's length.
+#[test]
+fn progress() {
+    let regions = [Region::new("A", 0, 10_000), Region::new("B", 1 << 40, 4096), Region::new("C", 5, 0)];
+    let mut wire = Wire::new(Device::dump(Memory::new(1, 1 << 50, &regions)), Division::Random, 1);
+    let mut seen: Vec<Progress> = Vec::new();
+    let mut driver = Driver::new(Backend::Usb, Mode::MemoryDebug, None, NO_IMAGES, NO_NAMES).unwrap();
+    driver.run(&mut wire, &mut Count::default(), |p| seen.push(p)).unwrap();
+    for (place, len) in [(0, 10_000), (1, 4096)] {
+        let of: Vec<u64> = seen.iter().filter(|p| p.place == place && p.len == len).map(|p| p.done).collect();
+        assert!(of.windows(2).all(|w| w[0] < w[1]) && of.last() == Some(&len), "{of:?}");
+    }
+    assert!(seen.iter().all(|p| p.place < 2));
+    assert_eq!(driver.table()[..192], regions.iter().flat_map(Region::bytes).collect::<Vec<u8>>());
+}
+
+/// Over a real socket, with the device in a thread of its own.
+#[test]
+fn over_a_socket() {
+    for seed in 0..40 {
+        let w = world(seed + 100_000);
+        let (mut host, far) = device::Socket::pair().unwrap();
+        let device = Device::dump(w.memory.clone());
+        let thread = std::thread::spawn(move || device::serve(device, far, seed).unwrap());
+        let mut sink = Record::default();
+        let end = sahara_run(&mut host, w.backend, Mode::MemoryDebug, None, NO_IMAGES, &w.names, &mut sink, |_| (), 0);
+        assert_eq!(end.unwrap(), Outcome::Dumped { reads: w.memory_reads() });
+        assert_eq!(host.empty_reads, w.empty_reads());
+        drop(host);
+        let (device, _) = thread.join().unwrap();
+        assert_eq!(sink.0, w.kept(), "seed {seed}");
+        assert_eq!((device.wrong(), device.queued()), (None, 0));
+    }
+}

@@ -1,0 +1,112 @@
+//! Buffers with a page behind or before them that no one may touch.
+use std::ffi::c_void;
+use std::ops::{Deref, DerefMut};
+use std::ptr::null_mut;
+
+const PAGE: usize = 4096;
+const NONE: i32 = 0;
+const READ_WRITE: i32 = 3;
+const PRIVATE_ANONYMOUS: i32 = 0x22;
+
+extern "C" {
+    fn mmap(at: *mut c_void, len: usize, prot: i32, flags: i32, fd: i32, offset: i64) -> *mut c_void;
+    fn mprotect(at: *mut c_void, len: usize, prot: i32) -> i32;
+    fn munmap(at: *mut c_void, len: usize) -> i32;
+}
+
+/// Where the buffer touches a guard page.
+#[derive(Clone, Copy, Debug)]
+pub enum Side {
+    Behind,
+    Before,
+}
+
+/// A copy of bytes in a map of its own: a guard page, pages, a guard page. What the pages have beside the bytes is looked at too.
+pub struct Guarded {
+    map: *mut u8,
+    pages: usize,
+    at: usize,
+    len: usize,
+}
+
+const FILL: u8 = 0xdb;
+
+impl Guarded {
+    pub fn new(bytes: &[u8], side: Side) -> Guarded {
+        let pages = bytes.len().div_ceil(PAGE).max(1) * PAGE;
+        // Safe: a new map, of which the middle is made writable.
+        let map = unsafe {
+            let map = mmap(null_mut(), pages + 2 * PAGE, NONE, PRIVATE_ANONYMOUS, -1, 0);
+            assert!(map as isize != -1);
+            assert_eq!(mprotect(map.add(PAGE), pages, READ_WRITE), 0);
+            map as *mut u8
+        };
+        let at = match side {
+            Side::Behind => PAGE + pages - bytes.len(),
+            Side::Before => PAGE,
+        };
+        let mut g = Guarded { map, pages, at, len: bytes.len() };
+        g.inside().fill(FILL);
+        g.copy_from_slice(bytes);
+        g
+    }
+
+    fn inside(&mut self) -> &mut [u8] {
+        // Safe: the writable part of our own map.
+        unsafe { std::slice::from_raw_parts_mut(self.map.add(PAGE), self.pages) }
+    }
+
+    /// No byte of the map beside the buffer has changed.
+    pub fn check(&mut self) {
+        let (at, len) = (self.at - PAGE, self.len);
+        let all = self.inside();
+        assert!(all[..at].iter().chain(&all[at + len..]).all(|b| *b == FILL), "a byte beside the buffer was written");
+    }
+}
+
+impl Deref for Guarded {
+    type Target = [u8];
+    fn deref(&self) -> &[u8] {
+        // Safe: within the writable part of our own map.
+        unsafe { std::slice::from_raw_parts(self.map.add(self.at), self.len) }
+    }
+}
+
+impl DerefMut for Guarded {
+    fn deref_mut(&mut self) -> &mut [u8] {
+        // Safe: as above.
+        unsafe { std::slice::from_raw_parts_mut(self.map.add(self.at), self.len) }
+    }
+}
+
+impl Drop for Guarded {
+    fn drop(&mut self) {
+        // Safe: our own map, and no slice of it is alive.
+        unsafe { munmap(self.map as *mut c_void, self.pages + 2 * PAGE) };
+    }
+}
+
+/// The guard bites: a child that reads one byte behind, or before, is killed.
+#[test]
+fn stray_bytes_are_seen() {
+    use std::os::unix::process::ExitStatusExt;
+    const NAME: &str = "WORGESLI_TEST_STRAY";
+    let stray = |side, past: isize| {
+        let g = Guarded::new(&[7; 100], side);
+        // Not safe: that is the point.
+        unsafe { std::ptr::read_volatile(g.as_ptr().offset(past)) }
+    };
+    match std::env::var(NAME).as_deref() {
+        Ok("behind") => assert_eq!(stray(Side::Behind, 100), 0),
+        Ok("before") => assert_eq!(stray(Side::Before, -1), 0),
+        Ok("within") => assert_eq!(stray(Side::Behind, 99), 7),
+        _ => {
+            for (what, signal) in [("behind", Some(11)), ("before", Some(11)), ("within", None)] {
+                let exe = std::env::current_exe().unwrap();
+                let args = ["--exact", "guard::stray_bytes_are_seen"];
+                let run = std::process::Command::new(exe).args(args).env(NAME, what).output().unwrap();
+                assert_eq!(run.status.signal(), signal, "{what}");
+            }
+        }
+    }
+}

@@ -1,0 +1,119 @@
+//! Devices with memory at random, what a fetch from them must give, and a sink that keeps it.
+use device::{Memory, Region, Rng};
+use std::io;
+use worgesli::{Backend, Entry, Sink};
+
+/// A region as it came out: its place, its entry's filename, its bytes, and whether it was closed.
+#[derive(Clone, Debug, PartialEq, Eq)]
+pub struct Kept {
+    pub place: usize,
+    pub filename: [u8; 20],
+    pub bytes: Vec<u8>,
+    pub closed: bool,
+}
+
+#[derive(Default)]
+pub struct Record(pub Vec<Kept>);
+
+impl Sink for Record {
+    fn open(&mut self, place: usize, entry: &Entry) -> io::Result<()> {
+        assert!(self.0.last().is_none_or(|r| r.closed), "a region is opened before the last one is closed");
+        self.0.push(Kept { place, filename: entry.filename, bytes: Vec::new(), closed: false });
+        Ok(())
+    }
+    fn bytes(&mut self, bytes: &[u8]) -> io::Result<usize> {
+        let last = self.0.last_mut().unwrap();
+        assert!(last.bytes.len() < 1 << 20, "more than any region here has");
+        last.bytes.extend_from_slice(bytes);
+        Ok(bytes.len())
+    }
+    fn close(&mut self, place: usize) -> io::Result<()> {
+        let last = self.0.last_mut().unwrap();
+        assert_eq!((last.place, last.closed), (place, false));
+        last.closed = true;
+        Ok(())
+    }
+}
+
+/// A table, and the names that a host asks for.
+pub struct World {
+    pub memory: Memory,
+    pub regions: Vec<Region>,
+    pub names: Vec<String>,
+    pub backend: Backend,
+}
+
+const STEMS: [&str; 6] = ["DDRCS0_0", "OCIMEM", "CODERAM", "load", "PMIC_PON", "RST_STAT"];
+
+/// Up to 6 regions, some of the same filename, some not preferred; lengths around chunks and blocks; with or without names.
+pub fn world(seed: u64) -> World {
+    let mut rng = Rng::new(seed);
+    let mut regions = Vec::new();
+    for _ in 0..rng.below(7) {
+        let stem = STEMS[rng.below(6) as usize];
+        let len = match rng.below(5) {
+            0 => rng.below(3) * 512,
+            1 => rng.below(4) * 4096,
+            2 => rng.below(3) * 4096 + rng.below(3),
+            _ => rng.below(12_000),
+        };
+        let base = match rng.below(4) {
+            0 => 0u64.wrapping_sub(len.max(1)), // up to the last address
+            1 => rng.below(1 << 20),
+            _ => rng.number() >> 1,
+        };
+        let region = Region::new(format!("{stem}.BIN"), base, len);
+        regions.push(if rng.chance(300) { region.unpreferred() } else { region });
+    }
+    let names = match rng.below(3) {
+        0 => (0..rng.below(4)).map(|_| STEMS[rng.below(6) as usize].to_lowercase()).collect(),
+        _ => Vec::new(),
+    };
+    // a table may end in part of an entry
+    let mut table: Vec<u8> = regions.iter().flat_map(Region::bytes).collect();
+    table.resize(table.len() + rng.below(2) as usize * rng.below(64) as usize, 0xa5);
+    let memory = Memory::with_table(seed, rng.number(), table);
+    let backend = if rng.chance(512) { Backend::Usb } else { Backend::Serial };
+    World { memory, regions, names, backend }
+}
+
+impl World {
+    /// Places of the regions to be dumped, in the table's order.
+    pub fn selected(&self) -> Vec<usize> {
+        let named = |r: &Region| {
+            let name = std::str::from_utf8(&r.filename).unwrap();
+            self.names.iter().any(|n| name.split('.').next().unwrap().eq_ignore_ascii_case(n))
+        };
+        let wanted = |r: &Region| if self.names.is_empty() { r.save_pref != 0 } else { named(r) };
+        (0..self.regions.len()).filter(|i| wanted(&self.regions[*i])).collect()
+    }
+
+    /// What a sink keeps of a whole fetch.
+    pub fn kept(&self) -> Vec<Kept> {
+        let kept = |place: usize| {
+            let r = &self.regions[place];
+            Kept { place, filename: r.filename, bytes: self.memory.bytes(r.base, r.len as usize), closed: true }
+        };
+        self.selected().into_iter().map(kept).collect()
+    }
+
+    /// Lengths of the chunks of the selected regions, in order.
+    pub fn chunks(&self) -> Vec<u64> {
+        let of = |place: usize| {
+            let len = self.regions[place].len;
+            (0..len.div_ceil(4096)).map(move |i| (len - i * 4096).min(4096))
+        };
+        self.selected().into_iter().flat_map(of).collect()
+    }
+
+    pub fn memory_reads(&self) -> u64 {
+        1 + self.chunks().len() as u64
+    }
+
+    pub fn empty_reads(&self) -> u64 {
+        match self.backend {
+            Backend::Serial => 0,
+            Backend::Usb => self.chunks().iter().filter(|n| *n % 512 == 0).count() as u64,
+        }
+    }
+}
