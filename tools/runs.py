@@ -1,8 +1,8 @@
 #!/usr/bin/env python3
 """Makes crates/runs/stdin and crates/runs/stdout: conversations, and what the host must answer to each.
 
-The answers come from the model below, which is written from document 01's paragraphs and shares nothing with the code. The gate needs no Python:
-it replays the two files. Run from the repository's root.
+The answers come from the model below, which is written from document 01's paragraphs and shares nothing with the code. Behind them stands the sample of
+compare/, whose answers are the original's. The gate needs no Python: it replays the two files. Run from the repository's root.
 """
 import struct
 
@@ -383,11 +383,15 @@ def main():
         head = (mode, 4 if command is None else command, int(usb), size, out, table, reply, len(images), len(names), len(feed))
         given += words(*head) + images + names + feed
         wanted += run(Host(mode, command, usb, images, names, out, table, reply), feed, size) + ['']
+    with open('compare/sample/stdin', 'rb') as f:
+        given += f.read()
+    with open('compare/sample/stdout') as f:
+        wanted += f.read().splitlines()
     with open('crates/runs/stdin', 'wb') as f:
         f.write(given)
     with open('crates/runs/stdout', 'w') as f:
-        f.write('\n'.join(wanted[:-1]) + '\n')
-    print(len(cases()), 'runs,', len(given), 'bytes,', len(wanted), 'lines')
+        f.write('\n'.join(wanted) + '\n')
+    print(len(cases()), 'runs and the sample,', len(given), 'bytes,', len(wanted), 'lines')
 
 
 if __name__ == '__main__':

@@ -4,7 +4,6 @@
 use command::CommandOf;
 use command::ModeOf;
 use command::SaharaMode;
-use field::Field4;
 use session::Answer;
 use session::Phase;
 use session::Session;
@@ -43,10 +42,7 @@ fn least(a: usize, b: usize) -> usize
 }
 
 fn word(input: &[u8], at: usize) -> u32 {
-    match field::u32_at(input, at) {
-        Field4::Is(v) => v,
-        Field4::Short => 0,
-    }
+    field::u32_padded(input, at)
 }
 
 // A length at a place, at most what is left.
@@ -397,7 +393,7 @@ fn all(input: &[u8], table: &mut [u8], reply: &mut [u8], out: &mut [u8]) {
 }
 
 fn main() {
-    let mut input = [0u8; 262144];
+    let mut input = [0u8; 524288];
     let mut table = [0u8; 65536];
     let mut reply = [0u8; 8192];
     let mut out = [0u8; 64];
