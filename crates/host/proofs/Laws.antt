@@ -13,28 +13,18 @@ use Rattle.session.specs.declared.Phase.the-variants as P
 use Rattle.session.specs.declared.Region.{Region}
 use Rattle.session.specs.declared.Session.{Session}
 use Rattle.session.specs.declared.Answer.the-variants as A
-use Rattle.session.specs.Step.{Outcome, ended, gives, readsLimit, phaseLimit, limitOf, onPhase, isEnded, untouched, stepOf, closedOf}
-use Rattle.host.specs.Host.{regionWaits}
+use Rattle.session.specs.Step.{ended, gives, readsLimit, phaseLimit, limitOf, onPhase, isEnded, untouched, stepOf, closedOf}
+use Rattle.host.specs.Host.{phaseStep, regionWaits}
 use Rattle.session.specs.Guard.{packetStep, responseStep, switchedStep, tableStep, betweenStep, regionStep}
 
 -- a session, a delivery, image set, names, table, reply and out buffers
 module _ (s : Session) (d set names t y o : List ℕ) where
-  -- the phase p with its guard
-  abbrev pub phaseStep : Phase → Outcome
-  phaseStep (P.Packet h) = packetStep s h d set t y o
-  phaseStep (P.Response x) = responseStep s x d t y o
-  phaseStep (P.Switched k) = switchedStep s k t y o
-  phaseStep (P.Table x) = tableStep s x d t y o
-  phaseStep (P.Between k i) = betweenStep s k i names t y o
-  phaseStep (P.Region k x) = regionStep s k x d t y o
-  phaseStep (P.Ended k) = pick (ltb (length o) 48) (untouched s 3 t y o) (untouched s 4 t y o)
-
   -- what stands behind 1 and 2 in the step, by the phase
   rest : (p : Phase)
       → pick (ltb (length o) 48) (untouched s 3 t y o)
       (pick (isEnded p) (untouched s 4 t y o)
       (pick (readsLimit s || phaseLimit 8 (s .window) p t y) (untouched s 18 t y o) (onPhase s p d set names t y o)))
-      ≡ phaseStep p
+      ≡ phaseStep s d set names t y o p
   unfolding packetStep responseStep switchedStep tableStep betweenStep regionStep
   rest (P.Packet h) = refl
   rest (P.Response x) = refl
@@ -55,7 +45,7 @@ module _ (s : Session) (d set names t y o : List ℕ) where
   step-2 e f = rw (e, f) refl
 
   -- neither is
-  pub step-phase : wellFormed true set ≡ true → wellFormed false names ≡ true → stepOf s d set names t y o ≡ phaseStep (s .phase)
+  pub step-phase : wellFormed true set ≡ true → wellFormed false names ≡ true → stepOf s d set names t y o ≡ phaseStep s d set names t y o (s .phase)
   unfolding stepOf limitOf
   step-phase e f = rw (e, f) (rest (s .phase))
 

@@ -1,9 +1,10 @@
--- What a session is opened with, when a step waits for bytes, and for how many. Document 01, "Session": "Opened with mode, command or none, backend";
--- "Where bytes are needed, an empty delivery gives go."
+-- What a session is opened with, a step by its phase, when a step waits for bytes, and for how many. Document 01, "Session": "Opened with mode, command
+-- or none, backend"; "Where bytes are needed, an empty delivery gives go."
 use Prim.Native.Nat.{ℕ, _-_}
 use mathlib.Core.Bool.{Bool, true, false}
 use mathlib.Core.List.{List}
 use lib.Dec.{ltb, eqb}
+use lib.ListN.{length}
 use Rattle.base.specs.Choice.{pick}
 use Rattle.packet.specs.Packet.{lengthField}
 use Rattle.command.specs.declared.SaharaMode.{SaharaMode}
@@ -14,9 +15,23 @@ use Rattle.session.specs.declared.Region.{Region}
 use Rattle.session.specs.declared.Phase.{Phase}
 use Rattle.session.specs.declared.Phase.the-variants as P
 use Rattle.session.specs.declared.Session.{Session}
+use Rattle.session.specs.Step.{Outcome, untouched}
+use Rattle.session.specs.Guard.{packetStep, responseStep, switchedStep, tableStep, betweenStep, regionStep}
 
 abbrev pub opening : SaharaMode → ExecCommand → QdlBackend → Opening
 opening m c b = record { mode = m; command = c; backend = b }
+
+-- a step behind 1 and 2, for a session as if it were in the phase p: the session, a delivery, image set, names, table, reply and out buffers, and p.
+-- `step-phase` of proofs/Laws: for the session's own phase it is the step
+module _ (s : Session) (d set names t y o : List ℕ) where
+  abbrev pub phaseStep : Phase → Outcome
+  phaseStep (P.Packet h) = packetStep s h d set t y o
+  phaseStep (P.Response x) = responseStep s x d t y o
+  phaseStep (P.Switched k) = switchedStep s k t y o
+  phaseStep (P.Table x) = tableStep s x d t y o
+  phaseStep (P.Between k i) = betweenStep s k i names t y o
+  phaseStep (P.Region k x) = regionStep s k x d t y o
+  phaseStep (P.Ended k) = pick (ltb (length o) 48) (untouched s 3 t y o) (untouched s 4 t y o)
 
 -- bytes are outstanding and no empty read comes first
 abbrev pub regionWaits : Region → Bool

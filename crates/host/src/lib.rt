@@ -23,7 +23,7 @@ use verdict::QdlBackend;
 ghost use mathlib.Core.Path.{_≡_};
 ghost use Prim.Native.Nat.{_-_};
 ghost use Rattle.session.specs.Step.{openedWith, outcome, stepOf, isEnded, closedOf};
-ghost use Rattle.host.specs.Host.{opening, regionWaits, needsBytes, packetWants, regionWants, wantedOf};
+ghost use Rattle.host.specs.Host.{opening, phaseStep, regionWaits, needsBytes, packetWants, regionWants, wantedOf};
 
 // A session, opened with a mode, a command or none, and a backend.
 pub fn open(mode: SaharaMode, command: ExecCommand, backend: QdlBackend) -> Session
@@ -38,6 +38,36 @@ pub fn open(mode: SaharaMode, command: ExecCommand, backend: QdlBackend) -> Sess
         reads: 0,
         window: [0u8; 48],
         phase: Phase::Packet(0),
+    }
+}
+
+// A step with the image set and the names judged well formed, for a session as if it were in the phase p.
+pub fn phase_step(
+    s: Session,
+    p: Phase,
+    delivery: &[u8],
+    set: &[u8],
+    names: &[u8],
+    table: &mut [u8],
+    reply: &mut [u8],
+    out: &mut [u8],
+) -> Stepped
+    ensures { λ r. ⌜ outcome r (now (table .exit)) (now (reply .exit)) (now (out .exit))
+        ≡ phaseStep s (now (delivery .entry)) (now (set .entry)) (now (names .entry)) (now (table .entry)) (now (reply .entry)) (now (out .entry)) p ⌝ }
+{
+    match p {
+        Phase::Packet(held) => packet_step(s, held, delivery, set, table, reply, out),
+        Phase::Response(x) => response_step(s, x, delivery, table, reply, out),
+        Phase::Switched(k) => switched_step(s, k, table, reply, out),
+        Phase::Table(x) => table_step(s, x, delivery, table, reply, out),
+        Phase::Between(k, i) => between_step(s, k, i, names, table, reply, out),
+        Phase::Region(k, x) => region_step(s, k, x, delivery, table, reply, out),
+        Phase::Ended(k) => {
+            if out.len() < 48 {
+                return untouched(s, 3);
+            }
+            untouched(s, 4)
+        }
     }
 }
 
@@ -61,20 +91,7 @@ pub fn step(
         return untouched(s, 2);
     };
     let p = s.phase;
-    match p {
-        Phase::Packet(held) => packet_step(s, held, delivery, set, table, reply, out),
-        Phase::Response(x) => response_step(s, x, delivery, table, reply, out),
-        Phase::Switched(k) => switched_step(s, k, table, reply, out),
-        Phase::Table(x) => table_step(s, x, delivery, table, reply, out),
-        Phase::Between(k, i) => between_step(s, k, i, names, table, reply, out),
-        Phase::Region(k, x) => region_step(s, k, x, delivery, table, reply, out),
-        Phase::Ended(k) => {
-            if out.len() < 48 {
-                return untouched(s, 3);
-            }
-            untouched(s, 4)
-        }
-    }
+    phase_step(s, p, delivery, set, names, table, reply, out)
 }
 
 fn is_ended(p: Phase) -> bool

@@ -19,6 +19,8 @@ use Rattle.verdict.specs.declared.Opening.{Opening}
 use Rattle.session.specs.declared.Phase.{Phase}
 use Rattle.session.specs.declared.Phase.the-variants as P
 use Rattle.session.specs.declared.Session.{Session}
+use Rattle.session.specs.declared.Answer.the-variants as A
+use Rattle.session.specs.Step.{gives}
 use Rattle.raw.specs.Raw.{
   backendNumber,
   execNumber,
@@ -41,6 +43,8 @@ use Rattle.raw.specs.Raw.{
   isSession,
   bare,
   openedRaw,
+  rawStepped,
+  refusedRaw,
 }
 use Rattle.raw.specs.declared.Counts.{Counts}
 use Rattle.raw.specs.declared.RawSession.{RawSession}
@@ -191,6 +195,11 @@ raw-back r h =
     let m = both (isMode (r .mode)) _ (a .0) in
     let x = both (isExec (r .command)) _ (m .1) in
     rw (mode-kept (r .mode) (m .0), exec-kept (r .command) (x .0), backend-kept (r .backend) (x .1), phase-kept r (a .1)) refl
+
+-- a session's refusal, told: its numbers as they were
+pub refused-told : (r : RawSession) (why : ℕ) → isSession r ≡ true → refusedRaw r why ≡ rawStepped (gives (sessionOf r) 0 (A.Refused why))
+unfolding rawStepped
+refused-told r why e = rw (raw-back r e) refl
 
 -- ---- a session just opened
 

@@ -201,6 +201,10 @@ rawStepped s =
       answer = answerNumber (s .answer);
     }
 
+-- refused, the numbers as they were; of a session's it is what the session's own refusal gives (`refused-told` of proofs/Laws)
+abbrev pub refusedRaw : RawSession → ℕ → RawStepped
+refusedRaw r why = record { session = r; taken = 0; first = why; second = 0; answer = 8 }
+
 -- numbers that are no session's come back as they were, refused 18
 abbrev pub noSession : RawSession → RawStepped
-noSession r = record { session = r; taken = 0; first = 18; second = 0; answer = 8 }
+noSession r = refusedRaw r 18

@@ -42,6 +42,7 @@ ghost use Rattle.raw.specs.Raw.{
   isSession,
   openedRaw,
   rawStepped,
+  refusedRaw,
   noSession,
 };
 
@@ -266,7 +267,7 @@ fn filling_of(r: RawSession) -> Filling
     }
 }
 
-fn phase_of(r: RawSession) -> Phase
+pub fn phase_of(r: RawSession) -> Phase
     ensures { λ p. ⌜ p ≡ phaseOf r ⌝ }
 {
     let n = r.phase;
@@ -395,15 +396,22 @@ pub fn raw_stepped(s: Stepped) -> RawStepped
     }
 }
 
-// What is given for numbers that are no session's: they come back as they were, refused 18.
-pub fn no_session(r: RawSession) -> RawStepped
-    ensures { λ x. ⌜ x ≡ noSession r ⌝ }
+// Refused, the numbers as they were and nothing taken.
+pub fn refused(r: RawSession, why: u64) -> RawStepped
+    ensures { λ x. ⌜ x ≡ refusedRaw r why ⌝ }
 {
     RawStepped {
         session: r,
         taken: 0,
-        first: 18,
+        first: why,
         second: 0,
         answer: 8,
     }
+}
+
+// What is given for numbers that are no session's: they come back as they were, refused 18.
+pub fn no_session(r: RawSession) -> RawStepped
+    ensures { λ x. ⌜ x ≡ noSession r ⌝ }
+{
+    refused(r, 18)
 }

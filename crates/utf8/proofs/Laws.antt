@@ -1,4 +1,5 @@
--- Laws of UTF-8: what a class stands for, one byte at a time, and that a text may be cut before any ASCII byte. Assumes nothing.
+-- Laws of UTF-8: what a class stands for, one byte at a time, that an ASCII beginning may be skipped, and that a text may be cut before any
+-- ASCII byte. Assumes nothing.
 use mathlib.Core.Path.{_≡_, refl, sym, ap, _∙_}
 use mathlib.Core.Bool.{Bool, true, false}
 use mathlib.Core.List.{List, [], _∷_, _++_}
@@ -8,10 +9,10 @@ use native.Mathlib.Numerals.{add-one}
 use lib.Dec.{T, leb, eqb, leb→le, eqb·suc-zero}
 use lib.ListN.{length, getD, take, drop}
 use lib.Seq.{split-at, drop-cons}
-use borrow.Author.Tests.{lt-leb}
+use borrow.Author.Tests.{leb-true, le-leb, lt-leb}
 use Rattle.base.specs.Choice.{pick}
 use Rattle.utf8.specs.Utf8.{Range, from, within, Row, table, leads, afterFirst, goesOn, utf8}
-use Rattle.utf8.specs.Classes.{follow, followOf, leadOf, nextOf}
+use Rattle.utf8.specs.Classes.{follow, followOf, leadOf, nextOf, asciiRun}
 use Rattle.utf8.specs.declared.Follow.{Follow}
 use Rattle.utf8.specs.declared.Class.{Class}
 use Rattle.utf8.specs.declared.Class.the-variants as C
@@ -87,6 +88,31 @@ length-pending (suc n) low high = ap suc (length-pending n 0x80 0xBF)
 -- at the end of a text nothing is to come
 pub ends : (f : Follow) → goesOn (rangesOf f) [] ≡ eqb (f .more) 0
 ends f = goes-end (rangesOf f) ∙ ap (λ (n : ℕ). eqb n 0) (length-pending (f .more) (f .low) (f .high))
+
+-- a byte up to 0x7F leads, and nothing follows it
+ascii-leads : (b : ℕ) (bs : List ℕ) → b ≤ 0x7F → utf8 (b ∷ bs) ≡ utf8 bs
+unfolding goesOn table leads afterFirst
+ascii-leads b bs h = rw (le-leb 0 b (omega arith), le-leb b 0x7F h) refl
+
+-- a text is UTF-8 where what stands behind its ASCII beginning is
+pub behind-run : (s : List ℕ) → utf8 s ≡ utf8 (drop (asciiRun s) s)
+unfolding asciiRun
+behind-run [] = refl
+behind-run (b ∷ bs) = by (leb b 0x7F) refl (behind-run bs) where
+  by : (t : Bool) → leb b 0x7F ≡ t → utf8 bs ≡ utf8 (drop (asciiRun bs) bs)
+      → utf8 (b ∷ bs) ≡ utf8 (drop (pick t (suc (asciiRun bs)) 0) (b ∷ bs))
+  by true e k = ascii-leads b bs (leb-true b 0x7F e) ∙ k
+  by false e k = refl
+
+-- a walk over the ASCII beginning ends at a byte above 0x7F
+pub run-ends : (s : List ℕ) (i : ℕ) → i < length s → 0x7F < getD s i 0 → asciiRun (drop i s) ≡ 0
+unfolding asciiRun
+run-ends s i h g = rw (drop-cons s i 0, lt-leb (getD s i 0) 0x7F g)
+
+-- and goes on at any other
+pub run-passes : (s : List ℕ) (i : ℕ) → i < length s → getD s i 0 ≤ 0x7F → asciiRun (drop i s) ≡ suc (asciiRun (drop (suc i) s))
+unfolding asciiRun
+run-passes s i h g = rw (drop-cons s i 0, le-leb (getD s i 0) 0x7F g)
 
 -- each range to come is above ASCII
 abbrev high : List Range → Bool

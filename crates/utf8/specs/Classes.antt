@@ -2,7 +2,7 @@
 use Prim.Native.Nat.{ℕ, suc, _-_}
 use mathlib.Core.List.{List, [], _∷_}
 use lib.ListN.{length}
-use lib.Dec.{eqb}
+use lib.Dec.{leb, eqb}
 use Rattle.base.specs.Choice.{pick}
 use Rattle.utf8.specs.Utf8.{Range, from, within, table, leads, afterFirst}
 use Rattle.utf8.specs.declared.Follow.{Follow}
@@ -28,3 +28,8 @@ nextOf f b =
     pick (eqb (f .more) 0)
     (leadOf b)
     (pick (within (from (f .low) (f .high)) b) (C.Is (follow (f .more - 1) 0x80 0xBF)) C.Not)
+
+-- the ASCII beginning: how many bytes stand before the first above 0x7F, all where there is none
+unfoldable pub asciiRun : List ℕ → ℕ
+asciiRun [] = 0
+asciiRun (b ∷ bs) = pick (leb b 0x7F) (suc (asciiRun bs)) 0

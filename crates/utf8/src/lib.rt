@@ -1,7 +1,7 @@
 // UTF-8 after Unicode's table 3-7.
 ghost use mathlib.Core.Path.{_≡_};
 ghost use Rattle.utf8.specs.Utf8.{utf8};
-ghost use Rattle.utf8.specs.Classes.{follow, leadOf, nextOf};
+ghost use Rattle.utf8.specs.Classes.{follow, leadOf, nextOf, asciiRun};
 
 // What is still to come of a sequence: how many bytes, and the range of the first of them; those behind it are 0x80..=0xBF.
 pub struct Follow {
@@ -57,7 +57,21 @@ fn next(f: Follow, b: u8) -> Class
     follows(f.more - 1, 0x80, 0xBF)
 }
 
-// Whether the bytes are UTF-8.
+// The ASCII beginning: how many bytes stand before the first above 0x7F, all where there is none.
+fn ascii_run(s: &[u8]) -> usize
+    ensures { λ r. ⌜ r ≡ asciiRun (now (s .entry)) ⌝ }
+{
+    let mut i: usize = 0;
+    while i < s.len() {
+        if 0x7F < s[i] {
+            return i;
+        }
+        i += 1;
+    }
+    i
+}
+
+// Whether the bytes are UTF-8: it is for those behind the ASCII beginning to say.
 pub fn valid(s: &[u8]) -> bool
     ensures { λ r. ⌜ r ≡ utf8 (now (s .entry)) ⌝ }
 {
@@ -66,7 +80,7 @@ pub fn valid(s: &[u8]) -> bool
         low: 0x80,
         high: 0xBF,
     };
-    let mut i: usize = 0;
+    let mut i = ascii_run(s);
     while i < s.len() {
         let Class::Is(n) = next(f, s[i]) else {
             return false;

@@ -1,15 +1,24 @@
 -- The functions over numbers by whether they are a session's; and for the numbers of a session they are the functions over sessions. Assumes nothing.
-use mathlib.Core.Path.{_≡_, refl}
+use mathlib.Core.Path.{_≡_, refl, sym, ap, _∙_}
 use mathlib.Core.Bool.{true, false}
 use mathlib.Core.List.{List}
 use Prim.Native.Nat.{ℕ}
+use Rattle.bundle.specs.Bundle.{wellFormed}
+use Rattle.session.specs.declared.Phase.{Phase}
 use Rattle.session.specs.declared.Session.{Session}
 use Rattle.session.specs.Step.{stepOf, closedOf}
-use Rattle.host.specs.Host.{wantedOf}
+use Rattle.host.specs.Host.{phaseStep, wantedOf}
+use Rattle.host.proofs.Laws.{step-1, step-2, step-phase}
 use Rattle.raw.specs.declared.RawSession.{RawSession}
-use Rattle.raw.specs.Raw.{rawOf, sessionOf, isSession, rawStepped, noSession}
-use Rattle.raw.proofs.Laws.{session-back, session-is}
+use Rattle.raw.specs.declared.RawStepped.{RawStepped}
+use Rattle.raw.specs.Raw.{rawOf, phaseOf, sessionOf, isSession, rawStepped, refusedRaw, noSession}
+use Rattle.raw.proofs.Laws.{session-back, session-is, refused-told}
 use Rattle.worgesli.specs.Worgesli.{rawOutcome, told, stepRaw, closedRaw, wantedRaw}
+
+-- the phase of the session that numbers are read as
+phase-read : (r : RawSession) → sessionOf r .phase ≡ phaseOf r
+unfolding sessionOf
+phase-read r = refl
 
 module _ (r : RawSession) (d set names t y o : List ℕ) where
   pub step-no : isSession r ≡ false → rawOutcome (noSession r) t y o ≡ stepRaw r d set names t y o
@@ -19,6 +28,21 @@ module _ (r : RawSession) (d set names t y o : List ℕ) where
   pub step-is : isSession r ≡ true → told (stepOf (sessionOf r) d set names t y o) ≡ stepRaw r d set names t y o
   unfolding stepRaw
   step-is e = rw e refl
+
+  -- of a session's numbers: the image set is malformed, the names are, neither is
+  pub step-images : isSession r ≡ true → wellFormed true set ≡ false → rawOutcome (refusedRaw r 1) t y o ≡ stepRaw r d set names t y o
+  step-images e f =
+      ap (λ (x : RawStepped). rawOutcome x t y o) (refused-told r 1 e) ∙ ap told (sym (step-1 (sessionOf r) d set names t y o f)) ∙ step-is e
+
+  pub step-names : isSession r ≡ true → wellFormed true set ≡ true → wellFormed false names ≡ false → rawOutcome (refusedRaw r 2) t y o ≡ stepRaw r d set names t y o
+  step-names e f g =
+      ap (λ (x : RawStepped). rawOutcome x t y o) (refused-told r 2 e) ∙ ap told (sym (step-2 (sessionOf r) d set names t y o f g)) ∙ step-is e
+
+  pub step-formed : isSession r ≡ true → wellFormed true set ≡ true → wellFormed false names ≡ true → told (phaseStep (sessionOf r) d set names t y o (phaseOf r)) ≡ stepRaw r d set names t y o
+  step-formed e f g =
+      ap (λ (p : Phase). told (phaseStep (sessionOf r) d set names t y o p)) (sym (phase-read r))
+      ∙ ap told (sym (step-phase (sessionOf r) d set names t y o f g))
+      ∙ step-is e
 
 pub closed-no : (r : RawSession) → isSession r ≡ false → noSession r ≡ closedRaw r
 unfolding closedRaw

@@ -1,5 +1,6 @@
 // The host for C and Rust. A slice crosses as a pointer and a length, a struct by value.
 use build::sahara_reset;
+use bundle::Checked;
 use bundle::check_images;
 use bundle::check_names;
 use entry::entry_at;
@@ -49,7 +50,16 @@ pub extern "C" fn worgesli_step(
     if !raw::is_session(s) {
         return raw::no_session(s);
     }
-    let t = host::step(raw::session_of(s), delivery, set, names, table, reply, out);
+    let Checked::Good = check_images(set) else {
+        return raw::refused(s, 1);
+    };
+    let Checked::Good = check_names(names) else {
+        return raw::refused(s, 2);
+    };
+    // the phase is made of the numbers: copied out of the session, its tag would stall the processor
+    let session = raw::session_of(s);
+    let p = raw::phase_of(s);
+    let t = host::phase_step(session, p, delivery, set, names, table, reply, out);
     raw::raw_stepped(t)
 }
 

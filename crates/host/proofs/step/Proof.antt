@@ -1,37 +1,16 @@
--- `host::step` meets its contract: the two checks, then each phase's own contract, by the laws of the step's parts. Assumes nothing.
+-- `host::step` meets its contract: the two checks, then the phase's own contract, by the laws of the step's parts. Assumes nothing.
 use mathlib.Core.Path.{_≡_, sym, ap, _∙_}
 use mathlib.Core.Bool.{true, false}
-use mathlib.Core.List.{List}
-use Prim.Native.Nat.{ℕ, _<_, _≤_}
-use native.Mathlib.Omega.{arith}
-use borrow.Author.Tests.{lt-ltb, le-ltb}
 use denote.Ref.{now}
-use lib.ListN.{length}
 use Rattle.bundle.specs.Bundle.{wellFormed, imagesChecked, namesChecked}
 use Rattle.bundle.specs.declared.Checked.the-variants as C
 use Rattle.bundle.proofs.Laws.{checked-good, checked-refused}
-use Rattle.session.specs.declared.Phase.the-variants as P
 use Rattle.session.specs.declared.Stepped.{Stepped}
-use Rattle.session.specs.Step.{Outcome, outcome, stepOf, untouched}
-use Rattle.host.proofs.Laws.{phaseStep, step-1, step-2, step-phase}
+use Rattle.session.specs.Step.{outcome}
+use Rattle.host.proofs.Laws.{step-1, step-2, step-phase}
 use borrow.Author.Needs.{needs}
 use Rattle.host.proofs.step.Statement.{statement}
 use Rattle.host.proofs.step.Tie as tie
-
--- where the function begins, from behind the two checks
-abbrev begun : tie.After-enum-told3 → tie.Start
-begun c = c .before .before .before .before .before .before .before .before .before .before .before .before
-
--- there both bundles are well formed, so the step is its phase
-by-phase : (c : tie.After-enum-told3) → (let a = begun c .args in
-    stepOf (a .s) (now (a .delivery)) (now (a .set)) (now (a .names)) (now (a .table)) (now (a .reply)) (now (a .out))
-    ≡ phaseStep (a .s) (now (a .delivery)) (now (a .set)) (now (a .names)) (now (a .table)) (now (a .reply)) (now (a .out)) (a .s .phase))
-by-phase c =
-    let a = begun c .args in
-    let e : imagesChecked (now (a .set)) ≡ C.Good = cc in
-    let f : namesChecked (now (a .names)) ≡ C.Good = cc in
-    step-phase (a .s) (now (a .delivery)) (now (a .set)) (now (a .names)) (now (a .table)) (now (a .reply)) (now (a .out))
-    (checked-good (wellFormed true (now (a .set))) 1 e) (checked-good (wellFormed false (now (a .names))) 2 f)
 
 check-images-requires : tie.Need-check-images-requires
 check-images-requires c κs = search needs
@@ -76,59 +55,8 @@ returns-2 c =
     ap (λ (r : Stepped). outcome r (now (a .table)) (now (a .reply)) (now (a .out))) (c .untouched2 .ensures)
     ∙ sym (step-2 (a .s) (now (a .delivery)) (now (a .set)) (now (a .names)) (now (a .table)) (now (a .reply)) (now (a .out)) (checked-good (wellFormed true (now (a .set))) 1 e) w)
 
-enum-known-p : tie.Need-enum-known-p
-enum-known-p c = search needs
-
-packet-step-requires : tie.Need-packet-step-requires
-packet-step-requires c κs = search needs
-
-enum-known-p-2 : tie.Need-enum-known-p-2
-enum-known-p-2 c = search needs
-
-response-step-requires : tie.Need-response-step-requires
-response-step-requires c κs = search needs
-
-enum-known-p-3 : tie.Need-enum-known-p-3
-enum-known-p-3 c = search needs
-
-switched-step-requires : tie.Need-switched-step-requires
-switched-step-requires c κs = search needs
-
-enum-known-p-4 : tie.Need-enum-known-p-4
-enum-known-p-4 c = search needs
-
-table-step-requires : tie.Need-table-step-requires
-table-step-requires c κs = search needs
-
-enum-known-p-5 : tie.Need-enum-known-p-5
-enum-known-p-5 c = search needs
-
-between-step-requires : tie.Need-between-step-requires
-between-step-requires c κs = search needs
-
-enum-known-p-6 : tie.Need-enum-known-p-6
-enum-known-p-6 c = search needs
-
-region-step-requires : tie.Need-region-step-requires
-region-step-requires c κs = search needs
-
-enum-known-p-7 : tie.Need-enum-known-p-7
-enum-known-p-7 c = search needs
-
-untouched-requires-3 : tie.Need-untouched-requires-3
-untouched-requires-3 c κs = search needs
-
-returns-3 : tie.Need-returns-3
-returns-3 c =
-    let g = c .before .before .before .before .before in
-    let a = begun g .args in
-    let l : length (now (a .out)) < 48 = omega arith in
-    let e : a .s .phase ≡ P.Ended (c .before .before .before .p7 .given .0 .0) = cc in
-    ap (λ (r : Stepped). outcome r (now (a .table)) (now (a .reply)) (now (a .out))) (c .untouched3 .ensures)
-    ∙ sym (by-phase g ∙ ap (phaseStep (a .s) (now (a .delivery)) (now (a .set)) (now (a .names)) (now (a .table)) (now (a .reply)) (now (a .out))) e ∙ simp (lt-ltb _ _ l))
-
-untouched-requires-4 : tie.Need-untouched-requires-4
-untouched-requires-4 c κs = search needs
+phase-step-requires : tie.Need-phase-step-requires
+phase-step-requires c κs = search needs
 
 same-length : tie.Need-same-length
 same-length c = search needs
@@ -139,101 +67,14 @@ same-length-2 c = search needs
 same-length-3 : tie.Need-same-length-3
 same-length-3 c = search needs
 
-returns-4 : tie.Need-returns-4
-returns-4 c =
-    let g = c .before .before .before .before .before .before .before .before .before in
-    let a = begun g .args in
-    let e : a .s .phase ≡ P.Packet (c .before .before .before .before .before .before .before .p .given .0 .0) = cc in
-    c .before .before .packet-step .ensures ∙ sym (by-phase g ∙ ap (phaseStep (a .s) (now (a .delivery)) (now (a .set)) (now (a .names)) (now (a .table)) (now (a .reply)) (now (a .out))) e)
-
-same-length-4 : tie.Need-same-length-4
-same-length-4 c = search needs
-
-same-length-5 : tie.Need-same-length-5
-same-length-5 c = search needs
-
-same-length-6 : tie.Need-same-length-6
-same-length-6 c = search needs
-
-returns-5 : tie.Need-returns-5
-returns-5 c =
-    let g = c .before .before .before .before .before .before .before .before .before .before .before in
-    let a = begun g .args in
-    let e : a .s .phase ≡ P.Response (c .before .before .before .before .before .before .before .before .before .p2 .given .0 .0) = cc in
-    c .before .before .before .before .response-step .ensures ∙ sym (by-phase g ∙ ap (phaseStep (a .s) (now (a .delivery)) (now (a .set)) (now (a .names)) (now (a .table)) (now (a .reply)) (now (a .out))) e)
-
-same-length-7 : tie.Need-same-length-7
-same-length-7 c = search needs
-
-same-length-8 : tie.Need-same-length-8
-same-length-8 c = search needs
-
-same-length-9 : tie.Need-same-length-9
-same-length-9 c = search needs
-
-returns-6 : tie.Need-returns-6
-returns-6 c =
-    let g = c .before .before .before .before .before .before .before in
-    let a = begun g .args in
-    let e : a .s .phase ≡ P.Switched (c .before .before .before .before .before .p3 .given .0 .0) = cc in
-    c .switched-step .ensures ∙ sym (by-phase g ∙ ap (phaseStep (a .s) (now (a .delivery)) (now (a .set)) (now (a .names)) (now (a .table)) (now (a .reply)) (now (a .out))) e)
-
-same-length-10 : tie.Need-same-length-10
-same-length-10 c = search needs
-
-same-length-11 : tie.Need-same-length-11
-same-length-11 c = search needs
-
-same-length-12 : tie.Need-same-length-12
-same-length-12 c = search needs
-
-returns-7 : tie.Need-returns-7
-returns-7 c =
-    let g = c .before .before .before .before .before .before .before .before .before in
-    let a = begun g .args in
-    let e : a .s .phase ≡ P.Table (c .before .before .before .before .before .before .before .p4 .given .0 .0) = cc in
-    c .before .before .table-step .ensures ∙ sym (by-phase g ∙ ap (phaseStep (a .s) (now (a .delivery)) (now (a .set)) (now (a .names)) (now (a .table)) (now (a .reply)) (now (a .out))) e)
-
-same-length-13 : tie.Need-same-length-13
-same-length-13 c = search needs
-
-same-length-14 : tie.Need-same-length-14
-same-length-14 c = search needs
-
-same-length-15 : tie.Need-same-length-15
-same-length-15 c = search needs
-
-returns-8 : tie.Need-returns-8
-returns-8 c =
-    let g = c .before .before .before .before .before .before .before in
-    let a = begun g .args in
-    let e : a .s .phase ≡ P.Between (c .before .before .before .before .before .p5 .given .0 .0) (c .before .before .before .before .before .p5 .given .0 .1 .0) = cc in
-    c .between-step .ensures ∙ sym (by-phase g ∙ ap (phaseStep (a .s) (now (a .delivery)) (now (a .set)) (now (a .names)) (now (a .table)) (now (a .reply)) (now (a .out))) e)
-
-same-length-16 : tie.Need-same-length-16
-same-length-16 c = search needs
-
-same-length-17 : tie.Need-same-length-17
-same-length-17 c = search needs
-
-same-length-18 : tie.Need-same-length-18
-same-length-18 c = search needs
-
-returns-9 : tie.Need-returns-9
-returns-9 c =
-    let g = c .before .before .before .before .before .before .before .before .before in
-    let a = begun g .args in
-    let e : a .s .phase ≡ P.Region (c .before .before .before .before .before .before .before .p6 .given .0 .0) (c .before .before .before .before .before .before .before .p6 .given .0 .1 .0) = cc in
-    c .before .before .region-step .ensures ∙ sym (by-phase g ∙ ap (phaseStep (a .s) (now (a .delivery)) (now (a .set)) (now (a .names)) (now (a .table)) (now (a .reply)) (now (a .out))) e)
-
-returns-10 : tie.Need-returns-10
-returns-10 c =
-    let g = c .before .before .before .before .before in
-    let a = begun g .args in
-    let l : 48 ≤ length (now (a .out)) = omega arith in
-    let e : a .s .phase ≡ P.Ended (c .before .before .before .p7 .given .0 .0) = cc in
-    ap (λ (r : Stepped). outcome r (now (a .table)) (now (a .reply)) (now (a .out))) (c .untouched4 .ensures)
-    ∙ sym (by-phase g ∙ ap (phaseStep (a .s) (now (a .delivery)) (now (a .set)) (now (a .names)) (now (a .table)) (now (a .reply)) (now (a .out))) e ∙ simp (le-ltb _ _ l))
+returns-3 : tie.Need-returns-3
+returns-3 c =
+    let a = c .before .before .before .before .before .before .before .before .before .before .before .before .before .before .before .before .before .before .before .before .before .before .args in
+    let e : imagesChecked (now (a .set)) ≡ C.Good = cc in
+    let f : namesChecked (now (a .names)) ≡ C.Good = cc in
+    c .before .before .before .before .before .before .phase-step .ensures
+    ∙ sym (step-phase (a .s) (now (a .delivery)) (now (a .set)) (now (a .names)) (now (a .table)) (now (a .reply)) (now (a .out))
+    (checked-good (wellFormed true (now (a .set))) 1 e) (checked-good (wellFormed false (now (a .names))) 2 f))
 
 pub step-spec : {M : Type 1} → statement M
 step-spec =
@@ -249,44 +90,8 @@ step-spec =
     enum-told-4
     untouched-requires-2
     returns-2
-    enum-known-p
-    packet-step-requires
-    enum-known-p-2
-    response-step-requires
-    enum-known-p-3
-    switched-step-requires
-    enum-known-p-4
-    table-step-requires
-    enum-known-p-5
-    between-step-requires
-    enum-known-p-6
-    region-step-requires
-    enum-known-p-7
-    untouched-requires-3
-    returns-3
-    untouched-requires-4
+    phase-step-requires
     same-length
     same-length-2
     same-length-3
-    returns-4
-    same-length-4
-    same-length-5
-    same-length-6
-    returns-5
-    same-length-7
-    same-length-8
-    same-length-9
-    returns-6
-    same-length-10
-    same-length-11
-    same-length-12
-    returns-7
-    same-length-13
-    same-length-14
-    same-length-15
-    returns-8
-    same-length-16
-    same-length-17
-    same-length-18
-    returns-9
-    returns-10)
+    returns-3)
