@@ -16,14 +16,14 @@ fn checked(c: Checked) {
 }
 
 // s BYTES
-pub fn images(line: &[u8]) {
+pub(crate) fn images(line: &[u8]) {
     let mut set = [0u8; 1024];
     let n = text::bytes(line, 1, &mut set);
     checked(check_images(&set[..n]));
 }
 
 // n BYTES
-pub fn names(line: &[u8]) {
+pub(crate) fn names(line: &[u8]) {
     let mut names = [0u8; 1024];
     let n = text::bytes(line, 1, &mut names);
     checked(check_names(&names[..n]));
@@ -37,7 +37,7 @@ fn at(start: usize, len: usize) {
 }
 
 // i SET ID OFFSET LENGTH
-pub fn range(line: &[u8]) {
+pub(crate) fn range(line: &[u8]) {
     let mut set = [0u8; 1024];
     let n = text::bytes(line, 1, &mut set);
     let id = ImageId(text::long(line, 2));

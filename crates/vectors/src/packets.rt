@@ -108,7 +108,7 @@ fn packet(p: SaharaPacket) {
 }
 
 // d BYTES: the kind's number, the length field, the fields.
-pub fn decode(line: &[u8]) {
+pub(crate) fn decode(line: &[u8]) {
     let mut p = [0u8; 1024];
     let n = text::bytes(line, 1, &mut p);
     match sahara_parse_packet(&p[..n]) {
@@ -118,7 +118,7 @@ pub fn decode(line: &[u8]) {
 }
 
 // l LENGTH
-pub fn length(line: &[u8]) {
+pub(crate) fn length(line: &[u8]) {
     match sahara_read_packet_length(text::number(line, 1)) {
         LengthCheck::Good => show::good(),
         LengthCheck::Refused(k) => show::refused(k),
@@ -180,7 +180,7 @@ fn build_into(line: &[u8], out: &mut [u8]) {
 }
 
 // b SIZE COMMAND ..: the packet of a command number in an out buffer of SIZE bytes of 0xAA, and the whole buffer afterwards.
-pub fn build_case(line: &[u8]) {
+pub(crate) fn build_case(line: &[u8]) {
     let mut out = [0xAAu8; 64];
     let size = text::index(line, 1);
     if 64 < size {

@@ -11,7 +11,7 @@ use selection::is_selected;
 use selection::next_selected;
 
 // u BYTES
-pub fn utf8_valid(line: &[u8]) {
+pub(crate) fn utf8_valid(line: &[u8]) {
     let mut s = [0u8; 1024];
     let n = text::bytes(line, 1, &mut s);
     show::flag(utf8::valid(&s[..n]));
@@ -26,7 +26,7 @@ fn front(s: &[u8], k: usize) {
 }
 
 // t NAME: the stem's bytes.
-pub fn stem(line: &[u8]) {
+pub(crate) fn stem(line: &[u8]) {
     let mut name = [0u8; 1024];
     let n = text::bytes(line, 1, &mut name);
     let k = stem_len(&name[..n]);
@@ -41,14 +41,14 @@ fn name_check(c: NameCheck) {
 }
 
 // o NAME
-pub fn opening(line: &[u8]) {
+pub(crate) fn opening(line: &[u8]) {
     let mut name = [0u8; 1024];
     let n = text::bytes(line, 1, &mut name);
     name_check(check_opening(&name[..n]));
 }
 
 // p NAME
-pub fn opened(line: &[u8]) {
+pub(crate) fn opened(line: &[u8]) {
     let mut name = [0u8; 1024];
     let n = text::bytes(line, 1, &mut name);
     name_check(check_opened(&name[..n]));
@@ -71,7 +71,7 @@ fn entry(e: RamdumpTable64) {
 }
 
 // e TABLE INDEX
-pub fn decode_entry(line: &[u8]) {
+pub(crate) fn decode_entry(line: &[u8]) {
     let mut table = [0u8; 1024];
     let n = text::bytes(line, 1, &mut table);
     let i = text::index(line, 2);
@@ -85,7 +85,7 @@ pub fn decode_entry(line: &[u8]) {
 }
 
 // x TABLE INDEX NAMES
-pub fn selected(line: &[u8]) {
+pub(crate) fn selected(line: &[u8]) {
     let mut table = [0u8; 1024];
     let mut names = [0u8; 1024];
     let n = text::bytes(line, 1, &mut table);
@@ -95,7 +95,7 @@ pub fn selected(line: &[u8]) {
 }
 
 // y TABLE ENTRIES NAMES FROM
-pub fn next(line: &[u8]) {
+pub(crate) fn next(line: &[u8]) {
     let mut table = [0u8; 1024];
     let mut names = [0u8; 1024];
     let n = text::bytes(line, 1, &mut table);

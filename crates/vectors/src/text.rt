@@ -4,7 +4,7 @@ ghost use lib.ListN.{length};
 ghost use Rattle.io.specs.Counts.{Counts};
 
 // The first place of b from a place on, the end where there is none.
-pub fn find(s: &[u8], at: usize, b: u8) -> usize
+pub(crate) fn find(s: &[u8], at: usize, b: u8) -> usize
     requires { ⌜ at ≤ length (now s) ⌝ }
     ensures { λ r. ⌜ (at ≤ r) × (r ≤ length (now (s .entry))) ⌝ }
 {
@@ -86,21 +86,21 @@ fn fill(s: &[u8], d: &mut [u8]) -> usize
 }
 
 // The bytes of word k, put at the front of d: how many.
-pub fn bytes(line: &[u8], k: usize, d: &mut [u8]) -> usize
+pub(crate) fn bytes(line: &[u8], k: usize, d: &mut [u8]) -> usize
     ensures { λ r. ⌜ Counts r (now (d .exit)) ⌝ }
 {
     fill(word(line, k), d)
 }
 
 // The number of word k.
-pub fn long(line: &[u8], k: usize) -> u64 {
+pub(crate) fn long(line: &[u8], k: usize) -> u64 {
     value(word(line, k))
 }
 
-pub fn number(line: &[u8], k: usize) -> u32 {
+pub(crate) fn number(line: &[u8], k: usize) -> u32 {
     (long(line, k) % 0x100000000) as u32
 }
 
-pub fn index(line: &[u8], k: usize) -> usize {
+pub(crate) fn index(line: &[u8], k: usize) -> usize {
     long(line, k) as usize
 }
