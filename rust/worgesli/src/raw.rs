@@ -215,7 +215,7 @@ pub fn entry_at(table: &[u8], i: usize) -> Entry {
     unsafe { worgesli_entry_at(table.as_ptr(), table.len(), i) }
 }
 
-/// The first selected entry at or after `from`, else `entries`.
+/// The first selected entry at or after `from` and before `entries`, else `entries` (`from` if that is not below it).
 pub fn next_selected(table: &[u8], entries: usize, names: &[u8], from: usize) -> usize {
     let (table, table_len) = (table.as_ptr(), table.len());
     // Safe: two live slices, which are only read.
