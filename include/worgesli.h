@@ -77,6 +77,14 @@ typedef struct worgesli_stepped {
     uint32_t answer;
 } worgesli_stepped;
 
+/* What a step in place gives: the same but the session. */
+typedef struct worgesli_told {
+    size_t taken;
+    uint64_t first;
+    uint64_t second;
+    uint32_t answer;
+} worgesli_told;
+
 /* An entry of the memory table; there 0: the table has no such entry, and all is 0. */
 typedef struct worgesli_entry {
     uint64_t save_pref;
@@ -122,6 +130,19 @@ worgesli_stepped worgesli_step(worgesli_session session,
                                uint8_t *table, size_t table_len,
                                uint8_t *reply, size_t reply_len,
                                uint8_t *out, size_t out_len);
+
+/* The same step of a session where it stands, and cheaper: worgesli_step_in_place(WORGESLI_PARTS(&session), delivery, ...). */
+worgesli_told worgesli_step_in_place(uint32_t head[4], uint64_t numbers[8], uint8_t window[48],
+                                     const uint8_t *delivery, size_t delivery_len,
+                                     const uint8_t *set, size_t set_len,
+                                     const uint8_t *names, size_t names_len,
+                                     uint8_t *table, size_t table_len,
+                                     uint8_t *reply, size_t reply_len,
+                                     uint8_t *out, size_t out_len);
+
+/* Of a pointer to a session: its numbers from mode to phase, those from reads to due, and its window. */
+#define WORGESLI_PARTS(session) \
+    ((uint32_t *)(void *)(session)), ((uint64_t *)(void *)((char *)(session) + offsetof(worgesli_session, reads))), ((session)->window)
 
 /* The channel was closed. */
 worgesli_stepped worgesli_closed(worgesli_session session);
@@ -187,6 +208,11 @@ WORGESLI_AT(worgesli_stepped, taken, 128);
 WORGESLI_AT(worgesli_stepped, first, 136);
 WORGESLI_AT(worgesli_stepped, second, 144);
 WORGESLI_AT(worgesli_stepped, answer, 152);
+WORGESLI_SIZE(worgesli_told, 32);
+WORGESLI_AT(worgesli_told, taken, 0);
+WORGESLI_AT(worgesli_told, first, 8);
+WORGESLI_AT(worgesli_told, second, 16);
+WORGESLI_AT(worgesli_told, answer, 24);
 WORGESLI_SIZE(worgesli_entry, 72);
 WORGESLI_AT(worgesli_entry, save_pref, 0);
 WORGESLI_AT(worgesli_entry, base, 8);

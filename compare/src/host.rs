@@ -63,7 +63,10 @@ impl Lent<'_> {
         if wanted > 0 && device.left().is_empty() {
             return raw::worgesli_closed(s);
         }
-        raw::step(s, &device.left()[..n], self.set, self.names, &mut self.table, &mut self.reply, &mut self.out)
+        let mut session = s;
+        let (table, reply, out) = (&mut self.table, &mut self.reply, &mut self.out);
+        let told = raw::step_in_place(&mut session, &device.left()[..n], self.set, self.names, table, reply, out);
+        raw::Stepped { session, taken: told.taken, first: told.first, second: told.second, answer: told.answer }
     }
 }
 

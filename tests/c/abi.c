@@ -59,9 +59,18 @@ static bool same(worgesli_session a, worgesli_session b)
     return memcmp(&a, &b, sizeof a) == 0;
 }
 
+/* A step, made twice: of the session by value, and of a copy of it in place, with buffers of its own. */
 static worgesli_stepped step(worgesli_session s, const uint8_t *delivery, size_t n)
 {
-    return worgesli_step(s, delivery, n, none, sizeof none, none, sizeof none, table, sizeof table, reply, sizeof reply, out, sizeof out);
+    uint8_t t[sizeof table], y[sizeof reply], o[sizeof out];
+    memcpy(t, table, sizeof t), memcpy(y, reply, sizeof y), memcpy(o, out, sizeof o);
+    worgesli_session p = s;
+    worgesli_told a = worgesli_step_in_place(WORGESLI_PARTS(&p), delivery, n, none, sizeof none, none, sizeof none, t, sizeof t, y, sizeof y, o, sizeof o);
+    worgesli_stepped r =
+        worgesli_step(s, delivery, n, none, sizeof none, none, sizeof none, table, sizeof table, reply, sizeof reply, out, sizeof out);
+    EXPECT(same(p, r.session) && a.taken == r.taken && a.first == r.first && a.second == r.second && a.answer == r.answer);
+    EXPECT(memcmp(t, table, sizeof t) == 0 && memcmp(y, reply, sizeof y) == 0 && memcmp(o, out, sizeof o) == 0);
+    return r;
 }
 
 static bool refused(worgesli_stepped r, uint64_t why)

@@ -73,6 +73,15 @@ pub struct RawStepped {
     pub answer: u32,
 }
 
+// What a step in place gives: all of the above but the session.
+#[repr(C)]
+pub struct RawTold {
+    pub taken: usize,
+    pub first: u64,
+    pub second: u64,
+    pub answer: u32,
+}
+
 // The numbers of a phase.
 pub struct Counts {
     pub phase: u32,
@@ -133,7 +142,7 @@ fn backend_of(n: u32) -> QdlBackend
 }
 
 // The opening that the numbers name.
-fn opening_of(mode: u32, command: u32, backend: u32) -> Opening
+pub fn opening_of(mode: u32, command: u32, backend: u32) -> Opening
     ensures { λ r. ⌜ r ≡ openingOf mode command backend ⌝ }
 {
     let m = mode_in(mode_of(mode));
@@ -165,7 +174,7 @@ fn is_exec(command: u32) -> bool
 }
 
 // Whether the numbers name an opening.
-fn is_opening(mode: u32, command: u32, backend: u32) -> bool
+pub fn is_opening(mode: u32, command: u32, backend: u32) -> bool
     ensures { λ r. ⌜ r ≡ isOpening mode command backend ⌝ }
 {
     if !is_mode(mode) {

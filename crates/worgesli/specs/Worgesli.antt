@@ -3,6 +3,7 @@
 -- and nothing is touched.
 use Prim.Native.Nat.{ℕ}
 use mathlib.Core.List.{List}
+use lib.ListN.{getD}
 use Rattle.base.specs.Choice.{pick}
 use Rattle.build.specs.declared.Request.the-variants as Q
 use Rattle.build.specs.Build as B
@@ -10,6 +11,7 @@ use Rattle.session.specs.Step.{Outcome, stepOf, closedOf}
 use Rattle.host.specs.Host.{wantedOf}
 use Rattle.raw.specs.declared.RawSession.{RawSession}
 use Rattle.raw.specs.declared.RawStepped.{RawStepped}
+use Rattle.raw.specs.declared.RawTold.{RawTold}
 use Rattle.raw.specs.Raw.{sessionOf, isSession, rawStepped, noSession}
 use Rattle.raw_records.specs.Records.{builtNumber}
 
@@ -30,6 +32,29 @@ told x = rawOutcome (rawStepped (x .stepped)) (x .table) (x .reply) (x .out)
 unfoldable pub stepRaw : RawSession → List ℕ → List ℕ → List ℕ → List ℕ → List ℕ → List ℕ → RawOutcome
 stepRaw r d set names t y o =
     pick (isSession r) (told (stepOf (sessionOf r) d set names t y o)) (rawOutcome (noSession r) t y o)
+
+-- a session in place: mode, command, backend and phase; the eight large numbers; the window
+abbrev pub rawAt : List ℕ → List ℕ → List ℕ → RawSession
+rawAt h n w =
+    record {
+      mode = getD h 0 0;
+      command = getD h 1 0;
+      backend = getD h 2 0;
+      phase = getD h 3 0;
+      reads = getD n 0 0;
+      count = getD n 1 0;
+      at = getD n 2 0;
+      base = getD n 3 0;
+      len = getD n 4 0;
+      done = getD n 5 0;
+      outstanding = getD n 6 0;
+      due = getD n 7 0;
+      window = w;
+    }
+
+-- what a step in place gives: the session where it stands, and what is told
+abbrev pub steppedAt : RawSession → RawTold → RawStepped
+steppedAt s r = record { session = s; taken = r .taken; first = r .first; second = r .second; answer = r .answer }
 
 unfoldable pub closedRaw : RawSession → RawStepped
 closedRaw r = pick (isSession r) (rawStepped (closedOf (sessionOf r))) (noSession r)

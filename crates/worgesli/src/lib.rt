@@ -1,4 +1,6 @@
 // The host for C and Rust. A slice crosses as a pointer and a length, a struct by value.
+mod place;
+
 use build::sahara_reset;
 use bundle::Checked;
 use bundle::check_images;
@@ -9,13 +11,16 @@ use image::image_range;
 use packet::sahara_parse_packet;
 use raw::RawSession;
 use raw::RawStepped;
+use raw::RawTold;
 use raw_packet::RawPacket;
 use raw_records::RawEntry;
 use raw_records::RawRange;
 ghost use mathlib.Core.Path.{_≡_};
+ghost use mathlib.Core.Bool.{true, false};
 ghost use Prim.Native.Nat.{_-_};
+ghost use Rattle.base.specs.Choice.{pick};
 ghost use Rattle.utf8.specs.Utf8.{utf8};
-ghost use Rattle.bundle.specs.Bundle.{imagesChecked, namesChecked};
+ghost use Rattle.bundle.specs.Bundle.{wellFormed, imagesChecked, namesChecked};
 ghost use Rattle.image.specs.Image.{rangeOf};
 ghost use Rattle.entry.specs.Entry.{entryAt};
 ghost use Rattle.selection.specs.Selection.{nextOf};
@@ -23,7 +28,7 @@ ghost use Rattle.packet.specs.Packet.{decodeOf};
 ghost use Rattle.raw.specs.Raw.{isSession, openedRaw};
 ghost use Rattle.raw_packet.specs.RawPacket.{rawPacket};
 ghost use Rattle.raw_records.specs.Records.{rawEntry, rawRange, checkedNumber};
-ghost use Rattle.worgesli.specs.Worgesli.{rawOutcome, stepRaw, closedRaw, wantedRaw, resetOutcome, resetRaw};
+ghost use Rattle.worgesli.specs.Worgesli.{rawOutcome, stepRaw, rawAt, steppedAt, closedRaw, wantedRaw, resetOutcome, resetRaw};
 
 // A session opened with a mode, a command or none, and a backend; no session where a number names none.
 #[no_mangle]
@@ -61,6 +66,102 @@ pub extern "C" fn worgesli_step(
     let p = raw::phase_of(s);
     let t = host::phase_step(session, p, delivery, set, names, table, reply, out);
     raw::raw_stepped(t)
+}
+
+// The image set and the names are well formed.
+fn formed(set: &[u8], names: &[u8]) -> bool
+    ensures { λ r. ⌜ r ≡ pick (wellFormed true (now (set .entry))) (wellFormed false (now (names .entry))) false ⌝ }
+{
+    let Checked::Good = check_images(set) else {
+        return false;
+    };
+    let Checked::Good = check_names(names) else {
+        return false;
+    };
+    true
+}
+
+// The numbers of a session in place.
+fn raw_at(head: &[u32; 4], numbers: &[u64; 8], window: &[u8; 48]) -> RawSession
+    ensures { λ r. ⌜ r ≡ rawAt (now (head .entry)) (now (numbers .entry)) (now (window .entry)) ⌝ }
+{
+    let bytes = *window;
+    RawSession {
+        mode: head[0],
+        command: head[1],
+        backend: head[2],
+        phase: head[3],
+        reads: numbers[0],
+        count: numbers[1] as usize,
+        at: numbers[2] as usize,
+        base: numbers[3],
+        len: numbers[4],
+        done: numbers[5],
+        outstanding: numbers[6],
+        due: numbers[7],
+        window: bytes,
+    }
+}
+
+// What a step gave, put in place.
+fn put_back(
+    t: RawStepped,
+    head: &mut [u32; 4],
+    numbers: &mut [u64; 8],
+    window: &mut [u8; 48],
+) -> RawTold
+    ensures { λ r. ⌜ steppedAt (rawAt (now (head .exit)) (now (numbers .exit)) (now (window .exit))) r ≡ t ⌝ }
+{
+    let s = t.session;
+    let bytes = s.window;
+    *head = [s.mode, s.command, s.backend, s.phase];
+    *numbers = [
+        s.reads,
+        s.count as u64,
+        s.at as u64,
+        s.base,
+        s.len,
+        s.done,
+        s.outstanding,
+        s.due,
+    ];
+    *window = bytes;
+    RawTold {
+        taken: t.taken,
+        first: t.first,
+        second: t.second,
+        answer: t.answer,
+    }
+}
+
+// As worgesli_step, with the session in place: mode, command, backend and phase; reads, count, at, base, len, done, outstanding and due; the window.
+#[no_mangle]
+pub extern "C" fn worgesli_step_in_place(
+    head: &mut [u32; 4],
+    numbers: &mut [u64; 8],
+    window: &mut [u8; 48],
+    delivery: &[u8],
+    set: &[u8],
+    names: &[u8],
+    table: &mut [u8],
+    reply: &mut [u8],
+    out: &mut [u8],
+) -> RawTold
+    ensures { λ r. ⌜ rawOutcome (steppedAt (rawAt (now (head .exit)) (now (numbers .exit)) (now (window .exit))) r)
+        (now (table .exit)) (now (reply .exit)) (now (out .exit))
+        ≡ stepRaw (rawAt (now (head .entry)) (now (numbers .entry)) (now (window .entry)))
+        (now (delivery .entry)) (now (set .entry)) (now (names .entry)) (now (table .entry)) (now (reply .entry)) (now (out .entry)) ⌝ }
+{
+    let x = place::region_at(numbers);
+    if place::repeated(head, numbers, x, table, out) {
+        if formed(set, names) {
+            let opening = raw::opening_of(head[0], head[1], head[2]);
+            return place::turn(opening, numbers, x, delivery, out);
+        }
+    }
+    let s = raw_at(head, numbers, window);
+    let t = worgesli_step(s, delivery, set, names, table, reply, out);
+    put_back(t, head, numbers, window)
 }
 
 // The channel was closed.

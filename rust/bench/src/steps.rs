@@ -17,11 +17,18 @@ impl Lent {
         raw::step(s, delivery, &self.set, &self.names, &mut self.table, &mut self.reply, &mut self.out)
     }
 
-    /// The least nanoseconds for a step of so many batches.
-    fn cost(&mut self, s: raw::Session, delivery: &[u8]) -> f64 {
-        least(|| {
+    /// Prints the least nanoseconds of a step: of a copy of the session in place, and by value.
+    fn line(&mut self, what: &str, s: raw::Session, delivery: &[u8]) {
+        let value = least(|| {
             black_box(self.step(black_box(s), black_box(delivery)));
-        })
+        });
+        let place = least(|| {
+            let mut p = black_box(s);
+            let (table, reply, out) = (&mut self.table, &mut self.reply, &mut self.out);
+            black_box(raw::step_in_place(&mut p, black_box(delivery), &self.set, &self.names, table, reply, out));
+            black_box(&p);
+        });
+        println!("    {what:<44} {place:8.1} {value:8.1}");
     }
 }
 
@@ -51,46 +58,45 @@ fn lent(entries: usize, many: usize) -> Lent {
 
 /// Prints the steps of a dump and of a command, with so many entries, and so many names and slots.
 pub fn print(entries: usize, many: usize) {
-    println!("one step, ns (least of 30 batches of 2,000), {entries} entries in the table, {many} names and slots");
+    println!("one step, in place and by value, ns (least of 30 batches of 2,000), {entries} entries in the table, {many} names and slots");
     let mut l = lent(entries, many);
-    let line = |what: &str, ns: f64| println!("    {what:<44} {ns:8.1}");
     let start = *Session::open(Mode::MemoryDebug, Some(Command::Nop), Backend::Usb).raw();
     let hello = device::hello(2);
-    line("packet: one byte", l.cost(start, &hello[..1]));
-    line("packet: a whole hello", l.cost(start, &hello));
+    l.line("packet: one byte", start, &hello[..1]);
+    l.line("packet: a whole hello", start, &hello);
     let exec = l.step(start, &device::execute_resp(0, 4096)).session;
-    line("response: 64 bytes", l.cost(exec, &[7; 64]));
-    line("response: 4,096 bytes, the last", l.cost(exec, &[7; 4096]));
+    l.line("response: 64 bytes", exec, &[7; 64]);
+    l.line("response: 4,096 bytes, the last", exec, &[7; 4096]);
     let switched = l.step(exec, &[7; 4096]).session;
-    line("switched", l.cost(switched, &[]));
+    l.line("switched", switched, &[]);
     let bytes = l.table.clone();
     let table = l.step(start, &device::mem_debug64(0, bytes.len() as u64)).session;
-    line("table: 64 bytes", l.cost(table, &bytes[..64]));
-    line("table: all", l.cost(table, &bytes));
+    l.line("table: 64 bytes", table, &bytes[..64]);
+    l.line("table: all", table, &bytes);
     let between = l.step(table, &bytes).session;
-    line("between: open the last entry", l.cost(between, &[]));
+    l.line("between: open the last entry", between, &[]);
     let region = l.step(between, &[]).session;
-    line("region: the first memory read", l.cost(region, &[]));
+    l.line("region: the first memory read", region, &[]);
     let waiting = l.step(region, &[]).session;
-    line("region: 1 byte", l.cost(waiting, &[1]));
-    line("region: 4,096 bytes", l.cost(waiting, &[1; 4096]));
+    l.line("region: 1 byte", waiting, &[1]);
+    l.line("region: 4,096 bytes", waiting, &[1; 4096]);
     let due = l.step(waiting, &[1; 4096]).session;
-    line("region: the empty read", l.cost(due, &[]));
+    l.line("region: the empty read", due, &[]);
     let next = l.step(due, &[]).session;
-    line("region: a further memory read", l.cost(next, &[]));
+    l.line("region: a further memory read", next, &[]);
     let whole = raw::Session { done: next.len, ..next };
-    line("region: close", l.cost(whole, &[]));
+    l.line("region: close", whole, &[]);
     let after = l.step(whole, &[]);
     assert_eq!(after.answer, 6);
-    line("between: finish", l.cost(after.session, &[]));
+    l.line("between: finish", after.session, &[]);
     let ended = raw::worgesli_closed(next).session;
-    line("ended: refused (4)", l.cost(ended, &[]));
+    l.line("ended: refused (4)", ended, &[]);
     let closed = || {
         black_box(raw::worgesli_closed(black_box(next)));
     };
-    line("closed", least(closed));
+    println!("    {:<44} {:8} {:8.1}", "closed", "", least(closed));
     let wanted = || {
         black_box(raw::worgesli_wanted(black_box(waiting)));
     };
-    line("wanted, in a region", least(wanted));
+    println!("    {:<44} {:8} {:8.1}", "wanted, in a region", "", least(wanted));
 }

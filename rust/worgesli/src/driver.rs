@@ -193,17 +193,16 @@ impl Driver {
             if wanted > 0 {
                 self.fill(channel, wanted)?;
             }
-            let s = self.step();
+            let told = self.step();
             hungry = true;
-            let done = match answer(&s) {
+            let done = match answer(&told) {
                 Answer::Go => Ok(()),
                 Answer::Send(k) => self.send(channel, 0, k),
                 Answer::Image { start, len } => self.send_image(channel, start, start + len),
                 Answer::Open(place) => self.open(sink, place),
                 Answer::Bytes(k) => {
                     hungry = k < wanted;
-                    let reached = Progress { place: self.place, done: s.session.done, len: s.session.len };
-                    self.hand(sink, &mut progress, self.from, self.from + k, reached)
+                    self.hand(sink, &mut progress, self.from, self.from + k)
                 }
                 Answer::EmptyRead => {
                     hungry = false;
@@ -211,22 +210,20 @@ impl Driver {
                 }
                 Answer::Close(place) => self.close(sink, place),
                 Answer::Finished { how, reads } => {
-                    self.went(&s);
+                    self.from += told.taken;
                     return Ok(self.outcome(how, reads));
                 }
                 Answer::Refused(why) => Err(why.into()),
             };
-            // after the deed: what the step has just written is slow to read back
-            self.went(&s);
+            self.from += told.taken;
             done?;
         }
     }
 
     /// A step lent what was read and not taken yet.
     #[inline]
-    fn step(&mut self) -> raw::Stepped {
-        raw::step(
-            *self.session.raw(),
+    fn step(&mut self) -> raw::Told {
+        self.session.step_told(
             &self.input[self.from..self.to],
             self.set.bytes(),
             self.names.bytes(),
@@ -234,13 +231,6 @@ impl Driver {
             &mut self.reply,
             &mut self.out,
         )
-    }
-
-    /// Goes on from what a step gave.
-    #[inline]
-    fn went(&mut self, s: &raw::Stepped) {
-        self.session.set(s);
-        self.from += s.taken;
     }
 
     /// As [`run`](Driver::run), bearing so many time-outs in a row. An empty read that times out once more is counted as made, so that a
@@ -301,11 +291,7 @@ impl Driver {
             Owed::Flush => self.flush(channel),
             Owed::EmptyRead => self.empty_read(channel),
             Owed::Open(place) => self.open(sink, place),
-            Owed::Bytes(from, to) => {
-                let s = self.session.raw();
-                let reached = Progress { place: self.place, done: s.done, len: s.len };
-                self.hand(sink, progress, from, to, reached)
-            }
+            Owed::Bytes(from, to) => self.hand(sink, progress, from, to),
             Owed::Close(place) => self.close(sink, place),
         }
     }
@@ -370,9 +356,9 @@ impl Driver {
         }
     }
 
-    /// Hands input[from..to] to the sink; `reached` is how far the last of them goes.
+    /// Hands input[from..to] to the sink: the last bytes that the session counts as done.
     #[inline]
-    fn hand<S, P>(&mut self, sink: &mut S, progress: &mut P, mut from: usize, to: usize, reached: Progress) -> Result<(), Error>
+    fn hand<S, P>(&mut self, sink: &mut S, progress: &mut P, mut from: usize, to: usize) -> Result<(), Error>
     where
         S: Sink + ?Sized,
         P: FnMut(Progress),
@@ -383,7 +369,8 @@ impl Driver {
                 Ok(n) => from += n,
                 Err(e) => return self.stop(Owed::Bytes(from, to), Error::Sink(e)),
             }
-            progress(Progress { done: reached.done - (to - from) as u64, ..reached });
+            let s = self.session.raw();
+            progress(Progress { place: self.place, done: s.done - (to - from) as u64, len: s.len });
         }
         Ok(())
     }

@@ -45,6 +45,16 @@ pub struct Stepped {
     pub answer: u32,
 }
 
+/// What a step in place gives: all of [`Stepped`] but the session.
+#[repr(C)]
+#[derive(Clone, Copy, Debug, PartialEq, Eq)]
+pub struct Told {
+    pub taken: usize,
+    pub first: u64,
+    pub second: u64,
+    pub answer: u32,
+}
+
 /// An entry of the memory table; all 0 where `there` is 0.
 #[repr(C)]
 #[derive(Clone, Copy, Debug, PartialEq, Eq)]
@@ -108,6 +118,10 @@ const _: () = {
     assert!(offset_of!(Stepped, first) == 136);
     assert!(offset_of!(Stepped, second) == 144);
     assert!(offset_of!(Stepped, answer) == 152);
+    assert!(size_of::<Told>() == 32);
+    assert!(offset_of!(Told, first) == 8);
+    assert!(offset_of!(Told, second) == 16);
+    assert!(offset_of!(Told, answer) == 24);
     assert!(size_of::<Entry>() == 72);
     assert!(offset_of!(Entry, description) == 24);
     assert!(offset_of!(Entry, filename) == 44);
@@ -140,6 +154,23 @@ unsafe extern "C" {
         out: *mut u8,
         out_len: usize,
     ) -> Stepped;
+    pub fn worgesli_step_in_place(
+        head: *mut u32,
+        numbers: *mut u64,
+        window: *mut u8,
+        delivery: *const u8,
+        delivery_len: usize,
+        set: *const u8,
+        set_len: usize,
+        names: *const u8,
+        names_len: usize,
+        table: *mut u8,
+        table_len: usize,
+        reply: *mut u8,
+        reply_len: usize,
+        out: *mut u8,
+        out_len: usize,
+    ) -> Told;
     pub safe fn worgesli_closed(s: Session) -> Stepped;
     pub safe fn worgesli_is_session(s: Session) -> bool;
     pub safe fn worgesli_wanted(s: Session) -> usize;
@@ -175,6 +206,40 @@ pub fn step(
     unsafe {
         worgesli_step(
             s,
+            delivery.as_ptr(),
+            delivery.len(),
+            set.as_ptr(),
+            set.len(),
+            names.as_ptr(),
+            names.len(),
+            table.as_mut_ptr(),
+            table.len(),
+            reply.as_mut_ptr(),
+            reply.len(),
+            out.as_mut_ptr(),
+            out.len(),
+        )
+    }
+}
+
+/// One step of a session where it stands: as [`step`], and cheaper.
+#[inline]
+pub fn step_in_place(
+    s: &mut Session,
+    delivery: &[u8],
+    set: &[u8],
+    names: &[u8],
+    table: &mut [u8],
+    reply: &mut [u8],
+    out: &mut [u8],
+) -> Told {
+    let s: *mut Session = s;
+    // Safe: as above. The session's parts lie where the assertions say: four u32, eight u64 (a usize is one) and the window.
+    unsafe {
+        worgesli_step_in_place(
+            s.cast(),
+            s.byte_add(offset_of!(Session, reads)).cast(),
+            s.byte_add(offset_of!(Session, window)).cast(),
             delivery.as_ptr(),
             delivery.len(),
             set.as_ptr(),

@@ -35,22 +35,29 @@ impl Session {
         reply: &mut [u8],
         out: &mut [u8],
     ) -> (usize, Answer) {
-        let s = raw::step(self.0, delivery, set, names, table, reply, out);
-        self.set(&s);
-        (s.taken, answer(&s))
+        let told = self.step_told(delivery, set, names, table, reply, out);
+        (told.taken, answer(&told))
     }
 
-    /// Goes on to what a step gave.
+    /// The same, as the archive tells it.
     #[inline]
-    pub(crate) fn set(&mut self, s: &raw::Stepped) {
-        self.0 = s.session;
+    pub(crate) fn step_told(
+        &mut self,
+        delivery: &[u8],
+        set: &[u8],
+        names: &[u8],
+        table: &mut [u8],
+        reply: &mut [u8],
+        out: &mut [u8],
+    ) -> raw::Told {
+        raw::step_in_place(&mut self.0, delivery, set, names, table, reply, out)
     }
 
     /// The channel was closed: refused (23), or (4) where the session had ended.
     pub fn closed(&mut self) -> Answer {
-        let s = raw::worgesli_closed(self.0);
-        self.set(&s);
-        answer(&s)
+        let raw::Stepped { session, taken, first, second, answer: number } = raw::worgesli_closed(self.0);
+        self.0 = session;
+        answer(&raw::Told { taken, first, second, answer: number })
     }
 
     /// How many bytes to read for the next step; 0: it needs none. A delivery of no more is taken whole, and who reads no more takes no
@@ -93,9 +100,9 @@ impl Session {
 
 /// What a step asks its caller to do.
 #[inline]
-pub(crate) fn answer(s: &raw::Stepped) -> Answer {
-    let (first, second) = (s.first as usize, s.second as usize);
-    match s.answer {
+pub(crate) fn answer(told: &raw::Told) -> Answer {
+    let (first, second) = (told.first as usize, told.second as usize);
+    match told.answer {
         0 => Answer::Go,
         1 => Answer::Send(first),
         2 => Answer::Image { start: first, len: second },
@@ -103,7 +110,7 @@ pub(crate) fn answer(s: &raw::Stepped) -> Answer {
         4 => Answer::Bytes(first),
         5 => Answer::EmptyRead,
         6 => Answer::Close(first),
-        7 => Answer::Finished { how: s.first as u8, reads: s.second },
-        _ => Answer::Refused(Refusal::new(s.first)),
+        7 => Answer::Finished { how: told.first as u8, reads: told.second },
+        _ => Answer::Refused(Refusal::new(told.first)),
     }
 }

@@ -6,6 +6,26 @@ use worgesli::{raw, Backend, Command, ImageSet, Mode, NameList, Session};
 
 const EMPTY: [u8; 8] = [0; 8];
 
+/// A step of the session by value; and of a copy in place, in buffers of its own, which must come to the same.
+fn step(
+    s: raw::Session,
+    delivery: &[u8],
+    set: &[u8],
+    names: &[u8],
+    table: &mut [u8],
+    reply: &mut [u8],
+    out: &mut [u8],
+) -> raw::Stepped {
+    let mut place = s;
+    let (mut t, mut y, mut o) = (table.to_vec(), reply.to_vec(), out.to_vec());
+    let told = raw::step_in_place(&mut place, delivery, set, names, &mut t, &mut y, &mut o);
+    let r = raw::step(s, delivery, set, names, table, reply, out);
+    let raw::Told { taken, first, second, answer } = told;
+    assert_eq!(raw::Stepped { session: place, taken, first, second, answer }, r, "{s:?}");
+    assert!(t == table && y == reply && o == out, "{s:?}");
+    r
+}
+
 fn word(bytes: &[u8], at: usize) -> u64 {
     u32::from_le_bytes(bytes[at..at + 4].try_into().unwrap()).into()
 }
@@ -66,12 +86,12 @@ fn malformed_bundles() {
         assert_eq!(ImageSet::from_bytes(b.to_vec()).map(|s| s.bytes().to_vec()).ok(), images.then(|| b.to_vec()));
         assert_eq!(NameList::from_bytes(b.to_vec()).is_ok(), names);
         let s = *Session::open(Mode::WaitingForImage, None, Backend::Usb).raw();
-        let step = |set: &[u8], names: &[u8]| {
-            let r = raw::step(s, &[1], set, names, &mut [], &mut [], &mut [0; 48]);
+        let lent = |set: &[u8], names: &[u8]| {
+            let r = step(s, &[1], set, names, &mut [], &mut [], &mut [0; 48]);
             (r.answer, r.first, r.taken)
         };
-        assert_eq!(step(&b, &EMPTY), if images { (0, 0, 1) } else { (8, 1, 0) });
-        assert_eq!(step(&EMPTY, &b), if names { (0, 0, 1) } else { (8, 2, 0) });
+        assert_eq!(lent(&b, &EMPTY), if images { (0, 0, 1) } else { (8, 1, 0) });
+        assert_eq!(lent(&EMPTY, &b), if names { (0, 0, 1) } else { (8, 2, 0) });
         // an image of a malformed set is none
         assert!(images || raw::image_range(&b, 0, 0, 0) == raw::Range { start: 0, len: 0, refused: 1 });
         // selection with any bytes for names comes to an end, at an entry that is there
@@ -134,7 +154,7 @@ fn bits_that_are_no_session() {
         };
         let (delivery, mut table, mut reply, mut out) = (bytes(300), bytes(300), bytes(150), bytes(100));
         let was = (table.to_vec(), reply.to_vec(), out.to_vec());
-        let r = raw::step(s, &delivery, &EMPTY, &EMPTY, &mut table, &mut reply, &mut out);
+        let r = step(s, &delivery, &EMPTY, &EMPTY, &mut table, &mut reply, &mut out);
         [&mut table, &mut reply, &mut out].into_iter().for_each(Guarded::check);
         let closed = raw::worgesli_closed(s);
         if !raw::worgesli_is_session(s) {
@@ -169,6 +189,52 @@ fn bits_that_are_no_session() {
         assert_eq!((closed.answer, closed.first, closed.taken), (8, if s.phase == 6 { 4 } else { 23 }, 0));
     }
     assert!(none > 5000 && some > 5000, "{none} {some}");
+}
+
+/// A session in a region, its counts at or next to their limits.
+fn region(rng: &mut Rng) -> raw::Session {
+    let near = |rng: &mut Rng, n: u64| n.wrapping_add(rng.below(5)).wrapping_sub(2);
+    let len: u64 = [0, 1, 511, 512, 4096, 4097, 10_000][rng.below(7) as usize];
+    let done = [0, 0, 1, len / 2, len, 512, 4096][rng.below(7) as usize];
+    let rest = len.saturating_sub(done);
+    let mut s = *Session::open(Mode::MemoryDebug, None, Backend::Serial).raw();
+    s.backend = rng.below(2) as u32;
+    s.phase = 5;
+    s.reads = if rng.chance(100) { near(rng, (1 << 63) + 1) } else { 1 + rng.below(9) };
+    s.count = 64 * rng.below(4) as usize + rng.below(2) as usize;
+    s.at = if rng.chance(800) { 0 } else { rng.below(4) as usize };
+    s.len = len;
+    s.base = if rng.chance(300) { near(rng, len.wrapping_neg()) } else { rng.below(1 << 40) };
+    s.done = done;
+    s.outstanding = [0, 0, rest, rest.min(512), near(rng, rest)][rng.below(5) as usize];
+    s.due = [0, 0, 0, 1, 1, 2][rng.below(6) as usize];
+    rng.fill(&mut s.window);
+    s
+}
+
+/// What a region does is the same in place and by value, wherever its counts are.
+#[test]
+fn regions_in_place() {
+    let mut rng = Rng::new(4);
+    let table = device::Region::new("A.BIN", 0, 0).bytes().repeat(4);
+    let mut seen = std::collections::BTreeMap::new();
+    for i in 0..60_000 {
+        let side = if i % 2 == 0 { Side::Behind } else { Side::Before };
+        let s = region(&mut rng);
+        let set = if rng.chance(30) { bundle(&mut rng) } else { EMPTY.to_vec() };
+        let names = if rng.chance(30) { bundle(&mut rng) } else { EMPTY.to_vec() };
+        let mut delivery = vec![0; [0, 1, 511, 512, 5000][rng.below(5) as usize]];
+        rng.fill(&mut delivery);
+        let mut table = Guarded::new(&table[..if rng.chance(900) { 256 } else { rng.below(257) as usize }], side);
+        let mut out = Guarded::new(&vec![9; if rng.chance(950) { 48 } else { 47 }], side);
+        let r = step(s, &delivery, &set, &names, &mut table, &mut [], &mut out);
+        [&mut table, &mut out].into_iter().for_each(Guarded::check);
+        *seen.entry((r.answer, if r.answer == 8 { r.first } else { 0 })).or_insert(0) += 1;
+    }
+    // go, a memory read, bytes, an empty read, a close, and the refusals that a region knows
+    for what in [(0, 0), (1, 0), (4, 0), (5, 0), (6, 0), (8, 1), (8, 2), (8, 3), (8, 18), (8, 22)] {
+        assert!(seen.get(&what).is_some_and(|n| *n > 50), "{what:?}: {seen:?}");
+    }
 }
 
 /// Opening with numbers that name none gives a value that is no session.
@@ -231,12 +297,12 @@ fn short_buffers() {
     for (i, delivery) in said.into_iter().enumerate() {
         for out in 0..48 {
             let mut out = Guarded::new(&vec![0; out], Side::Behind);
-            let r = raw::step(*s.raw(), delivery, &EMPTY, &EMPTY, &mut table, &mut [], &mut out);
+            let r = step(*s.raw(), delivery, &EMPTY, &EMPTY, &mut table, &mut [], &mut out);
             assert_eq!((r.answer, r.first, r.taken, r.session), (8, 3, 0, *s.raw()));
         }
         for short in (0..64).filter(|_| i > 0) {
             let mut short = Guarded::new(&table[..short], Side::Behind);
-            let r = raw::step(*s.raw(), delivery, &EMPTY, &EMPTY, &mut short, &mut [], &mut [0; 48]);
+            let r = step(*s.raw(), delivery, &EMPTY, &EMPTY, &mut short, &mut [], &mut [0; 48]);
             assert_eq!((r.answer, r.first, r.taken, r.session), (8, 18, 0, *s.raw()));
         }
         s.step(delivery, &EMPTY, &EMPTY, &mut table, &mut [], &mut [0; 48]);

@@ -1,0 +1,73 @@
+-- `place::ask` meets its contract: the out buffer has room for the packet, and each part is what the call gives. Assumes nothing.
+use mathlib.Core.Path.{_≡_, ap, _∙_}
+use Prim.Native.Nat.{ℕ, _+_, _-_, min}
+use native.Mathlib.Numerals.{add-one}
+use denote.Ref.{now}
+use Rattle.build.specs.Build.{Outcome, front}
+use Rattle.build.specs.declared.Request.the-variants as Q
+use Rattle.build.proofs.Laws.{build-long}
+use Rattle.verdict.specs.Opening.{chunkOf}
+use Rattle.worgesli.specs.Place.{askedAt}
+use borrow.Author.Needs.{needs}
+use Rattle.worgesli.proofs.place.ask.Statement.{statement}
+use Rattle.worgesli.proofs.place.ask.Tie as tie
+
+chunk-size-requires : tie.Need-chunk-size-requires
+chunk-size-requires c κs = search needs
+
+sub-rest : tie.Need-sub-rest
+sub-rest c = search needs
+
+least-requires : tie.Need-least-requires
+least-requires c κs = search needs
+
+add-sahara-send-mem-read64 : tie.Need-add-sahara-send-mem-read64
+add-sahara-send-mem-read64 c = search needs
+
+sahara-send-mem-read64-requires : tie.Need-sahara-send-mem-read64-requires
+sahara-send-mem-read64-requires c κs = search needs
+
+element-copy-out-reads : tie.Need-element-copy-out-reads
+element-copy-out-reads c = search needs
+
+add-count : tie.Need-add-count
+add-count c = search needs
+
+count-requires : tie.Need-count-requires
+count-requires c κs = search needs
+
+told-requires : tie.Need-told-requires
+told-requires c κs = search needs
+
+same-length : tie.Need-same-length
+same-length c = search needs
+
+returns : tie.Need-returns
+unfolding askedAt
+returns c =
+    let m = c .before .before .before .before .before .before .sahara-send-mem-read64 in
+    let l = c .before .before .before .before .before .before .before .before .before in
+    let b = l .before .before .before .before in
+    let a = b .args in
+    let n : ℕ = l .least .result in
+    let e : n ≡ min (chunkOf (a .opening)) (a .x .len - a .x .done) =
+    l .least .ensures ∙ ap (λ (k : ℕ). min k (a .x .len - a .x .done)) (l .before .before .chunk-size .ensures) in
+    let u = m .ensures ∙ build-long (Q.MemRead64 (a .x .base + a .x .done) n) (now (a .out)) (b .pre .0) in
+    let o : m .last .0 ≡ front (Q.MemRead64 (a .x .base + a .x .done) n) (now (a .out)) = ap (λ (z : Outcome). z .out) u in
+    simp (c .told .ensures, c .before .count .ensures, o, e, add-one)
+
+pub ask-spec : {M : Type 1} → statement M
+ask-spec =
+    tie.close
+    (tie.spec
+    chunk-size-requires
+    sub-rest
+    least-requires
+    add-sahara-send-mem-read64
+    sahara-send-mem-read64-requires
+    element-copy-out-reads
+    add-count
+    count-requires
+    told-requires
+    same-length
+    returns)
