@@ -9,6 +9,7 @@ use entry::entry_at;
 use image::ImageId;
 use image::image_range;
 use packet::sahara_parse_packet;
+use place::told;
 use raw::RawSession;
 use raw::RawStepped;
 use raw::RawTold;
@@ -36,36 +37,6 @@ pub extern "C" fn worgesli_open(mode: u32, command: u32, backend: u32) -> RawSes
     ensures { λ r. ⌜ r ≡ openedRaw mode command backend ⌝ }
 {
     raw::opened(mode, command, backend)
-}
-
-// One step: a delivery, the image set and the names, and the table, reply and out buffers.
-#[no_mangle]
-pub extern "C" fn worgesli_step(
-    s: RawSession,
-    delivery: &[u8],
-    set: &[u8],
-    names: &[u8],
-    table: &mut [u8],
-    reply: &mut [u8],
-    out: &mut [u8],
-) -> RawStepped
-    ensures { λ r. ⌜ rawOutcome r (now (table .exit)) (now (reply .exit)) (now (out .exit))
-        ≡ stepRaw s (now (delivery .entry)) (now (set .entry)) (now (names .entry)) (now (table .entry)) (now (reply .entry)) (now (out .entry)) ⌝ }
-{
-    if !raw::is_session(s) {
-        return raw::no_session(s);
-    }
-    let Checked::Good = check_images(set) else {
-        return raw::refused(s, 1);
-    };
-    let Checked::Good = check_names(names) else {
-        return raw::refused(s, 2);
-    };
-    // the phase is made of the numbers: copied out of the session, its tag would stall the processor
-    let session = raw::session_of(s);
-    let p = raw::phase_of(s);
-    let t = host::phase_step(session, p, delivery, set, names, table, reply, out);
-    raw::raw_stepped(t)
 }
 
 // The image set and the names are well formed.
@@ -134,6 +105,86 @@ fn put_back(
     }
 }
 
+// A step of a session in place, by its phase.
+fn step_by_phase(
+    head: &mut [u32; 4],
+    numbers: &mut [u64; 8],
+    window: &mut [u8; 48],
+    delivery: &[u8],
+    set: &[u8],
+    names: &[u8],
+    table: &mut [u8],
+    reply: &mut [u8],
+    out: &mut [u8],
+) -> RawTold
+    ensures { λ r. ⌜ rawOutcome (steppedAt (rawAt (now (head .exit)) (now (numbers .exit)) (now (window .exit))) r)
+        (now (table .exit)) (now (reply .exit)) (now (out .exit))
+        ≡ stepRaw (rawAt (now (head .entry)) (now (numbers .entry)) (now (window .entry)))
+        (now (delivery .entry)) (now (set .entry)) (now (names .entry)) (now (table .entry)) (now (reply .entry)) (now (out .entry)) ⌝ }
+{
+    let s = raw_at(head, numbers, window);
+    if !raw::is_session(s) {
+        return told(0, 8, 18);
+    }
+    let Checked::Good = check_images(set) else {
+        return told(0, 8, 1);
+    };
+    let Checked::Good = check_names(names) else {
+        return told(0, 8, 2);
+    };
+    // the phase is made of the numbers: copied out of the session, its tag would stall the processor
+    let session = raw::session_of(s);
+    let p = raw::phase_of(s);
+    let t = host::phase_step(session, p, delivery, set, names, table, reply, out);
+    put_back(raw::raw_stepped(t), head, numbers, window)
+}
+
+// One step: a delivery, the image set and the names, and the table, reply and out buffers.
+#[no_mangle]
+pub extern "C" fn worgesli_step(
+    s: RawSession,
+    delivery: &[u8],
+    set: &[u8],
+    names: &[u8],
+    table: &mut [u8],
+    reply: &mut [u8],
+    out: &mut [u8],
+) -> RawStepped
+    ensures { λ r. ⌜ rawOutcome r (now (table .exit)) (now (reply .exit)) (now (out .exit))
+        ≡ stepRaw s (now (delivery .entry)) (now (set .entry)) (now (names .entry)) (now (table .entry)) (now (reply .entry)) (now (out .entry)) ⌝ }
+{
+    let mut head = [s.mode, s.command, s.backend, s.phase];
+    let mut numbers = [
+        s.reads,
+        s.count as u64,
+        s.at as u64,
+        s.base,
+        s.len,
+        s.done,
+        s.outstanding,
+        s.due,
+    ];
+    let mut window = s.window;
+    let told = step_by_phase(
+        &mut head,
+        &mut numbers,
+        &mut window,
+        delivery,
+        set,
+        names,
+        table,
+        reply,
+        out,
+    );
+    RawStepped {
+        session: raw_at(&head, &numbers, &window),
+        taken: told.taken,
+        first: told.first,
+        second: told.second,
+        answer: told.answer,
+    }
+}
+
 // As worgesli_step, with the session in place: mode, command, backend and phase; reads, count, at, base, len, done, outstanding and due; the window.
 #[no_mangle]
 pub extern "C" fn worgesli_step_in_place(
@@ -159,9 +210,17 @@ pub extern "C" fn worgesli_step_in_place(
             return place::turn(opening, numbers, x, delivery, out);
         }
     }
-    let s = raw_at(head, numbers, window);
-    let t = worgesli_step(s, delivery, set, names, table, reply, out);
-    put_back(t, head, numbers, window)
+    step_by_phase(
+        head,
+        numbers,
+        window,
+        delivery,
+        set,
+        names,
+        table,
+        reply,
+        out,
+    )
 }
 
 // The channel was closed.

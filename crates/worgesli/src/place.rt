@@ -17,7 +17,8 @@ ghost use lib.ListN.{length, getD};
 ghost use Rattle.base.specs.Choice.{pick};
 ghost use Rattle.worgesli.specs.Place.{regionAt, countedAt, toldOf, placed, askedAt, handedAt, turnAt, goesOn, within, inRegion, repeats};
 
-fn told(taken: usize, answer: u32, first: u64) -> RawTold
+// What is told: bytes taken, the answer's number and its first value.
+pub(crate) fn told(taken: usize, answer: u32, first: u64) -> RawTold
     ensures { λ r. ⌜ r ≡ toldOf taken answer first ⌝ }
 {
     RawTold {

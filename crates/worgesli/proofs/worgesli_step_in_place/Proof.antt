@@ -1,5 +1,4 @@
--- `worgesli_step_in_place` meets its contract: where the region repeats a step, by `turn-is`; else it is `worgesli_step` between reading the session and
--- putting it back. Assumes nothing.
+-- `worgesli_step_in_place` meets its contract: where the region repeats a step, by `turn-is`; else it is `step_by_phase`. Assumes nothing.
 use mathlib.Core.Path.{_≡_, refl, sym, ap, _∙_}
 use mathlib.Core.Bool.{true, false}
 use Prim.Native.Nat.{_+_, _^_}
@@ -12,10 +11,8 @@ use Rattle.bundle.specs.Bundle.{wellFormed}
 use Rattle.verdict.specs.declared.Opening.{Opening}
 use Rattle.session.specs.declared.Region.{Region}
 use Rattle.region_phase.proofs.Laws.{region-within}
-use Rattle.raw.specs.declared.RawSession.{RawSession}
-use Rattle.raw.specs.declared.RawStepped.{RawStepped}
 use Rattle.raw.specs.Raw.{openingOf}
-use Rattle.worgesli.specs.Worgesli.{rawOutcome, rawAt, steppedAt, stepRaw}
+use Rattle.worgesli.specs.Worgesli.{rawOutcome, rawAt, steppedAt}
 use Rattle.worgesli.specs.Place.{regionAt, Placed, turnAt, repeats}
 use Rattle.worgesli.proofs.Repeats.{no, Repeats, repeats-are, turn-is}
 use borrow.Author.Needs.{needs}
@@ -93,14 +90,8 @@ returns c =
     ∙ turn-is (now (a .head)) (now (a .numbers)) (now (a .window)) (now (a .delivery)) (now (a .set)) (now (a .names)) (now (a .table)) (now (a .reply)) (now (a .out))
     (repeating i (regionAt (now (a .numbers))) (read i .region-at .ensures)) (w .0) (w .1)
 
-raw-at-requires : tie.Need-raw-at-requires
-raw-at-requires c κs = search needs
-
-worgesli-step-requires : tie.Need-worgesli-step-requires
-worgesli-step-requires c κs = search needs
-
-put-back-requires : tie.Need-put-back-requires
-put-back-requires c κs = search needs
+step-by-phase-requires : tie.Need-step-by-phase-requires
+step-by-phase-requires c κs = search needs
 
 same-length-3 : tie.Need-same-length-3
 same-length-3 c = search needs
@@ -112,14 +103,7 @@ same-length-5 : tie.Need-same-length-5
 same-length-5 c = search needs
 
 returns-2 : tie.Need-returns-2
-returns-2 c =
-    let s = c .before .before .before .before .before .before .before .before .before .before in
-    let r = s .before .before .before .before in
-    let a = r .before .before .before .before .before .before .before .before .before .before .before .before .before .before .before .before .before .before .args in
-    let l = s .worgesli-step .last in
-    ap (λ (z : RawStepped). rawOutcome z (l .1 .1 .1 .1 .0) (l .1 .1 .1 .1 .1 .0) (l .1 .1 .1 .1 .1 .1 .0)) (c .put-back .ensures)
-    ∙ s .worgesli-step .ensures
-    ∙ ap (λ (z : RawSession). stepRaw z (now (a .delivery)) (now (a .set)) (now (a .names)) (now (a .table)) (now (a .reply)) (now (a .out))) (r .raw-at .ensures)
+returns-2 c = c .before .before .before .before .before .before .step-by-phase .ensures
 
 pub worgesli-step-in-place-spec : {M : Type 1} → statement M
 worgesli-step-in-place-spec =
@@ -136,9 +120,7 @@ worgesli-step-in-place-spec =
     same-length
     same-length-2
     returns
-    raw-at-requires
-    worgesli-step-requires
-    put-back-requires
+    step-by-phase-requires
     same-length-3
     same-length-4
     same-length-5
