@@ -1,5 +1,6 @@
 // Bundles: the check of an image set and of a name list, and one slot of either.
-use field::u32_padded;
+use field::Field4;
+use field::u32_at;
 ghost use mathlib.Core.Path.{_≡_};
 ghost use mathlib.Core.Bool.{false};
 ghost use Prim.Native.Nat.{_+_, _*_, _<_, _≤_};
@@ -32,11 +33,15 @@ pub enum Slot {
     Missing,
 }
 
-// A number of 4 bytes.
+// A number that lies within the bytes. Read with zeros for what is not there it would be simpler, and too large to be compiled in line.
 fn number(b: &[u8], at: usize) -> usize
+    requires { ⌜ at + 4 ≤ length (now b) ⌝ }
     ensures { λ r. ⌜ (r ≡ le 4 (drop at (now (b .entry)))) × (r < 4294967296) ⌝ }
 {
-    u32_padded(b, at) as usize
+    match u32_at(b, at) {
+        Field4::Is(v) => v as usize,
+        Field4::Short => 0,
+    }
 }
 
 // The start of slot i of n.

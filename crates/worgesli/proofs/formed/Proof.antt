@@ -10,13 +10,13 @@ use Rattle.worgesli.proofs.formed.Statement.{statement}
 use Rattle.worgesli.proofs.formed.Tie as tie
 
 check-images-requires : tie.Need-check-images-requires
-check-images-requires c κs = search needs
+check-images-requires c κs = tt
 
 enum-told : tie.Need-enum-told
-enum-told c = search needs
+enum-told c = c .match .keys1
 
 enum-told-2 : tie.Need-enum-told-2
-enum-told-2 c = search needs
+enum-told-2 c = c .match .keys2
 
 returns : tie.Need-returns
 returns c =
@@ -26,18 +26,18 @@ returns c =
     simp w
 
 check-names-requires : tie.Need-check-names-requires
-check-names-requires c κs = search needs
+check-names-requires c κs = tt
 
 enum-told-3 : tie.Need-enum-told-3
-enum-told-3 c = search needs
+enum-told-3 c = c .match2 .keys1
 
 enum-told-4 : tie.Need-enum-told-4
-enum-told-4 c = search needs
+enum-told-4 c = c .match2 .keys2
 
 returns-2 : tie.Need-returns-2
 returns-2 c =
     let a = c .before .before .before .before .before .before .before .before .args in
-    let e : imagesChecked (now (a .set)) ≡ C.Good = cc in
+    let e : imagesChecked (now (a .set)) ≡ C.Good = sym (c .before .before .before .before .before .check-images .ensures) ∙ c .before .before .before .enum-told .given .1 in
     let w : wellFormed false (now (a .names)) ≡ false =
     checked-refused (wellFormed false (now (a .names))) 2 _ (sym (c .before .before .check-names .ensures) ∙ c .enum-told4 .given .1) in
     simp (checked-good (wellFormed true (now (a .set))) 1 e, w)
@@ -45,8 +45,8 @@ returns-2 c =
 returns-3 : tie.Need-returns-3
 returns-3 c =
     let a = c .before .before .before .before .before .before .before .before .args in
-    let e : imagesChecked (now (a .set)) ≡ C.Good = cc in
-    let g : namesChecked (now (a .names)) ≡ C.Good = cc in
+    let e : imagesChecked (now (a .set)) ≡ C.Good = sym (c .before .before .before .before .before .check-images .ensures) ∙ c .before .before .before .enum-told .given .1 in
+    let g : namesChecked (now (a .names)) ≡ C.Good = sym (c .before .before .check-names .ensures) ∙ c .enum-told3 .given .1 in
     simp (checked-good (wellFormed true (now (a .set))) 1 e, checked-good (wellFormed false (now (a .names))) 2 g)
 
 pub formed-spec : {M : Type 1} → statement M

@@ -32,23 +32,23 @@ tested i b e = ap isSession (sym (i .before .raw-at .ensures)) ∙ sym (i .is-se
 images-formed : (c : tie.After-enum-told3) → wellFormed true (now (begun (c .before .before .before .before .before .before .before) .args .set)) ≡ true
 images-formed c =
     let a = begun (c .before .before .before .before .before .before .before) .args in
-    let e : imagesChecked (now (a .set)) ≡ C.Good = cc in
+    let e : imagesChecked (now (a .set)) ≡ C.Good = sym (c .before .before .before .before .before .check-images .ensures) ∙ c .before .before .before .enum-told .given .1 in
     checked-good (wellFormed true (now (a .set))) 1 e
 
 names-formed : (c : tie.After-enum-told3) → wellFormed false (now (begun (c .before .before .before .before .before .before .before) .args .names)) ≡ true
 names-formed c =
     let a = begun (c .before .before .before .before .before .before .before) .args in
-    let e : namesChecked (now (a .names)) ≡ C.Good = cc in
+    let e : namesChecked (now (a .names)) ≡ C.Good = sym (c .before .before .check-names .ensures) ∙ c .enum-told3 .given .1 in
     checked-good (wellFormed false (now (a .names))) 2 e
 
 raw-at-requires : tie.Need-raw-at-requires
-raw-at-requires c κs = search needs
+raw-at-requires c κs = tt
 
 is-session-requires : tie.Need-is-session-requires
-is-session-requires c κs = search needs
+is-session-requires c κs = tt
 
 told-requires : tie.Need-told-requires
-told-requires c κs = search needs
+told-requires c κs = tt
 
 returns : tie.Need-returns
 returns c =
@@ -59,16 +59,16 @@ returns c =
     (tested i false (not-true _ (c .before .if1 .taken)))
 
 check-images-requires : tie.Need-check-images-requires
-check-images-requires c κs = search needs
+check-images-requires c κs = tt
 
 enum-told : tie.Need-enum-told
-enum-told c = search needs
+enum-told c = c .match .keys1
 
 enum-told-2 : tie.Need-enum-told-2
-enum-told-2 c = search needs
+enum-told-2 c = c .match .keys2
 
 told-requires-2 : tie.Need-told-requires-2
-told-requires-2 c κs = search needs
+told-requires-2 c κs = tt
 
 returns-2 : tie.Need-returns-2
 returns-2 c =
@@ -81,22 +81,22 @@ returns-2 c =
     (tested i true (not-false _ (c .before .before .before .before .if1 .left))) w
 
 check-names-requires : tie.Need-check-names-requires
-check-names-requires c κs = search needs
+check-names-requires c κs = tt
 
 enum-told-3 : tie.Need-enum-told-3
-enum-told-3 c = search needs
+enum-told-3 c = c .match2 .keys1
 
 enum-told-4 : tie.Need-enum-told-4
-enum-told-4 c = search needs
+enum-told-4 c = c .match2 .keys2
 
 told-requires-3 : tie.Need-told-requires-3
-told-requires-3 c κs = search needs
+told-requires-3 c κs = tt
 
 returns-3 : tie.Need-returns-3
 returns-3 c =
     let i = c .before .before .before .before .before .before .before .before in
     let a = begun i .args in
-    let e : imagesChecked (now (a .set)) ≡ C.Good = cc in
+    let e : imagesChecked (now (a .set)) ≡ C.Good = sym (c .before .before .before .before .before .before .check-images .ensures) ∙ c .before .before .before .before .enum-told .given .1 in
     let w : wellFormed false (now (a .names)) ≡ false =
     checked-refused (wellFormed false (now (a .names))) 2 _ (sym (c .before .before .before .check-names .ensures) ∙ c .before .enum-told4 .given .1) in
     ap (λ (z : RawTold). rawOutcome (steppedAt (at i) z) (now (a .table)) (now (a .reply)) (now (a .out))) (c .told3 .ensures)
@@ -104,19 +104,19 @@ returns-3 c =
     (tested i true (not-false _ (c .before .before .before .before .before .before .before .if1 .left))) (checked-good (wellFormed true (now (a .set))) 1 e) w
 
 session-of-requires : tie.Need-session-of-requires
-session-of-requires c κs = search needs
+session-of-requires c κs = tt
 
 phase-of-requires : tie.Need-phase-of-requires
-phase-of-requires c κs = search needs
+phase-of-requires c κs = tt
 
 phase-step-requires : tie.Need-phase-step-requires
-phase-step-requires c κs = search needs
+phase-step-requires c κs = tt
 
 raw-stepped-requires : tie.Need-raw-stepped-requires
-raw-stepped-requires c κs = search needs
+raw-stepped-requires c κs = tt
 
 put-back-requires : tie.Need-put-back-requires
-put-back-requires c κs = search needs
+put-back-requires c κs = tt
 
 same-length : tie.Need-same-length
 same-length c = search needs

@@ -7,10 +7,10 @@ use Rattle.worgesli.proofs.worgesli_step.Statement.{statement}
 use Rattle.worgesli.proofs.worgesli_step.Tie as tie
 
 step-by-phase-requires : tie.Need-step-by-phase-requires
-step-by-phase-requires c κs = search needs
+step-by-phase-requires c κs = tt
 
 raw-at-requires : tie.Need-raw-at-requires
-raw-at-requires c κs = search needs
+raw-at-requires c κs = tt
 
 same-length : tie.Need-same-length
 same-length c = search needs

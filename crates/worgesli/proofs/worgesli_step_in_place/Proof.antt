@@ -37,13 +37,13 @@ repeating c x e =
     ∙ c .before .before .if1 .taken)
 
 region-at-requires : tie.Need-region-at-requires
-region-at-requires c κs = search needs
+region-at-requires c κs = tt
 
 repeated-requires : tie.Need-repeated-requires
-repeated-requires c κs = search needs
+repeated-requires c κs = tt
 
 formed-requires : tie.Need-formed-requires
-formed-requires c κs = search needs
+formed-requires c κs = tt
 
 element-copy-out-opening-of : tie.Need-element-copy-out-opening-of
 element-copy-out-opening-of c = search needs
@@ -55,7 +55,7 @@ element-copy-out-opening-of-3 : tie.Need-element-copy-out-opening-of-3
 element-copy-out-opening-of-3 c = search needs
 
 opening-of-requires : tie.Need-opening-of-requires
-opening-of-requires c κs = search needs
+opening-of-requires c κs = tt
 
 turn-requires : tie.Need-turn-requires
 turn-requires c κs =
@@ -91,7 +91,7 @@ returns c =
     (repeating i (regionAt (now (a .numbers))) (read i .region-at .ensures)) (w .0) (w .1)
 
 step-by-phase-requires : tie.Need-step-by-phase-requires
-step-by-phase-requires c κs = search needs
+step-by-phase-requires c κs = tt
 
 same-length-3 : tie.Need-same-length-3
 same-length-3 c = search needs

@@ -13,19 +13,19 @@ use Rattle.worgesli.proofs.place.ask.Statement.{statement}
 use Rattle.worgesli.proofs.place.ask.Tie as tie
 
 chunk-size-requires : tie.Need-chunk-size-requires
-chunk-size-requires c κs = search needs
+chunk-size-requires c κs = tt
 
 sub-rest : tie.Need-sub-rest
 sub-rest c = search needs
 
 least-requires : tie.Need-least-requires
-least-requires c κs = search needs
+least-requires c κs = tt
 
 add-sahara-send-mem-read64 : tie.Need-add-sahara-send-mem-read64
 add-sahara-send-mem-read64 c = search needs
 
 sahara-send-mem-read64-requires : tie.Need-sahara-send-mem-read64-requires
-sahara-send-mem-read64-requires c κs = search needs
+sahara-send-mem-read64-requires c κs = tt
 
 element-copy-out-reads : tie.Need-element-copy-out-reads
 element-copy-out-reads c = search needs
@@ -34,10 +34,10 @@ add-count : tie.Need-add-count
 add-count c = search needs
 
 count-requires : tie.Need-count-requires
-count-requires c κs = search needs
+count-requires c κs = tt
 
 told-requires : tie.Need-told-requires
-told-requires c κs = search needs
+told-requires c κs = tt
 
 same-length : tie.Need-same-length
 same-length c = search needs

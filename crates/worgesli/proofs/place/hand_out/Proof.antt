@@ -6,14 +6,14 @@ use Rattle.worgesli.proofs.place.hand_out.Statement.{statement}
 use Rattle.worgesli.proofs.place.hand_out.Tie as tie
 
 told-requires : tie.Need-told-requires
-told-requires c κs = search needs
+told-requires c κs = tt
 
 returns : tie.Need-returns
 unfolding handedAt
 returns c = λ o. simp (eq-eqb _ _ (c .before .if1 .taken), c .told .ensures)
 
 least-requires : tie.Need-least-requires
-least-requires c κs = search needs
+least-requires c κs = tt
 
 sub-left : tie.Need-sub-left
 sub-left c = search needs
@@ -22,19 +22,19 @@ add-done : tie.Need-add-done
 add-done c = search needs
 
 due-after-requires : tie.Need-due-after-requires
-due-after-requires c κs = search needs
+due-after-requires c κs = tt
 
 bit-requires : tie.Need-bit-requires
-bit-requires c κs = search needs
+bit-requires c κs = tt
 
 element-copy-out-reads : tie.Need-element-copy-out-reads
 element-copy-out-reads c = search needs
 
 count-requires : tie.Need-count-requires
-count-requires c κs = search needs
+count-requires c κs = tt
 
 told-requires-2 : tie.Need-told-requires-2
-told-requires-2 c κs = search needs
+told-requires-2 c κs = tt
 
 returns-2 : tie.Need-returns-2
 unfolding handedAt

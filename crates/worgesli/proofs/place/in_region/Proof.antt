@@ -5,7 +5,7 @@ use Rattle.worgesli.proofs.place.in_region.Statement.{statement}
 use Rattle.worgesli.proofs.place.in_region.Tie as tie
 
 is-opening-requires : tie.Need-is-opening-requires
-is-opening-requires c κs = search needs
+is-opening-requires c κs = tt
 
 returns : tie.Need-returns
 returns c = simp (eq-eqb _ _ (c .before .before .if1 .taken), lt-ltb _ _ (c .before .if2 .taken)) (c .is-opening .ensures)

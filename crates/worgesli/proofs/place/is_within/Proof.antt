@@ -9,13 +9,13 @@ returns : tie.Need-returns
 returns c = simp (lt-ltb _ _ (c .if1 .taken))
 
 reads-limit-requires : tie.Need-reads-limit-requires
-reads-limit-requires c κs = search needs
+reads-limit-requires c κs = tt
 
 returns-2 : tie.Need-returns-2
 returns-2 c = simp (le-ltb _ _ (c .before .before .if1 .left), sym (c .before .reads-limit .ensures) ∙ c .if2 .taken)
 
 region-limit-requires : tie.Need-region-limit-requires
-region-limit-requires c κs = search needs
+region-limit-requires c κs = tt
 
 returns-3 : tie.Need-returns-3
 returns-3 c =
@@ -23,7 +23,7 @@ returns-3 c =
     simp (le-ltb _ _ (r .before .before .if1 .left), sym (r .before .reads-limit .ensures) ∙ r .if2 .left, sym (c .before .region-limit .ensures) ∙ c .if3 .taken)
 
 goes-on-requires : tie.Need-goes-on-requires
-goes-on-requires c κs = search needs
+goes-on-requires c κs = tt
 
 returns-4 : tie.Need-returns-4
 returns-4 c =

@@ -21,7 +21,7 @@ element-copy-out-in-region-5 : tie.Need-element-copy-out-in-region-5
 element-copy-out-in-region-5 c = search needs
 
 in-region-requires : tie.Need-in-region-requires
-in-region-requires c κs = search needs
+in-region-requires c κs = tt
 
 element-copy-out-is-within : tie.Need-element-copy-out-is-within
 element-copy-out-is-within c = search needs
@@ -30,7 +30,7 @@ element-copy-out-is-within-2 : tie.Need-element-copy-out-is-within-2
 element-copy-out-is-within-2 c = search needs
 
 is-within-requires : tie.Need-is-within-requires
-is-within-requires c κs = search needs
+is-within-requires c κs = tt
 
 returns : tie.Need-returns
 unfolding repeats

@@ -12,10 +12,10 @@ element-copy-out-reads : tie.Need-element-copy-out-reads
 element-copy-out-reads c = search needs
 
 count-requires : tie.Need-count-requires
-count-requires c κs = search needs
+count-requires c κs = tt
 
 told-requires : tie.Need-told-requires
-told-requires c κs = search needs
+told-requires c κs = tt
 
 returns : tie.Need-returns
 unfolding turnAt
