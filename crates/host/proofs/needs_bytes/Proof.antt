@@ -1,50 +1,47 @@
 -- `host::needs_bytes` meets its contract: by the phase. Assumes nothing.
-use mathlib.Core.Path.{_≡_, sym, ap, _∙_}
-use Rattle.session.specs.declared.Phase.the-variants as P
+use mathlib.Core.Path.{sym, ap, _∙_}
 use Rattle.host.specs.Host.{needsBytes}
 use borrow.Author.Needs.{needs}
 use Rattle.host.proofs.needs_bytes.Statement.{statement}
 use Rattle.host.proofs.needs_bytes.Tie as tie
 
 enum-told : tie.Need-enum-told
-enum-told c = search needs
+enum-told c = c .match .keys1
 
 enum-known-p : tie.Need-enum-known-p
-enum-known-p c = search needs
+enum-known-p c = c .match .keys2
 
 enum-told-2 : tie.Need-enum-told-2
-enum-told-2 c = search needs
+enum-told-2 c = c .match .keys3
 
 enum-known-p-2 : tie.Need-enum-known-p-2
-enum-known-p-2 c = search needs
+enum-known-p-2 c = c .match .keys4
 
 enum-told-3 : tie.Need-enum-told-3
-enum-told-3 c = search needs
+enum-told-3 c = c .match .keys5
 
 enum-known-p-3 : tie.Need-enum-known-p-3
-enum-known-p-3 c = search needs
+enum-known-p-3 c = c .match .keys6
 
 waiting-requires : tie.Need-waiting-requires
-waiting-requires c κs = search needs
+waiting-requires c κs = tt
 
 enum-told-4 : tie.Need-enum-told-4
-enum-told-4 c = search needs
+enum-told-4 c = c .match .keys7
 
 returns : tie.Need-returns
 returns c = search needs
 
 returns-2 : tie.Need-returns-2
 returns-2 c =
-    let e : c .before .before .before .before .args .s .phase ≡ P.Response (c .before .before .p .given .0 .0) = cc in
-    sym (ap needsBytes e)
+    sym (ap needsBytes (c .before .before .p .given .1))
 
 returns-3 : tie.Need-returns-3
 returns-3 c = search needs
 
 returns-4 : tie.Need-returns-4
 returns-4 c =
-    let e : c .before .before .before .before .args .s .phase ≡ P.Table (c .before .before .p2 .given .0 .0) = cc in
-    sym (ap needsBytes e)
+    sym (ap needsBytes (c .before .before .p2 .given .1))
 
 returns-5 : tie.Need-returns-5
 returns-5 c = search needs
@@ -52,8 +49,7 @@ returns-5 c = search needs
 returns-6 : tie.Need-returns-6
 returns-6 c =
     let a = c .before .before .before .before .args in
-    let e : a .s .phase ≡ P.Region (c .before .before .p3 .given .0 .0) (c .before .before .p3 .given .0 .1 .0) = cc in
-    (cc) ∙ sym (ap needsBytes e)
+    (cc) ∙ sym (ap needsBytes (c .before .before .p3 .given .1))
 
 returns-7 : tie.Need-returns-7
 returns-7 c = search needs

@@ -1,12 +1,11 @@
 -- `host::phase_step` meets its contract: each phase's own contract, by the phase. Assumes nothing.
-use mathlib.Core.Path.{_≡_, sym, ap, _∙_}
+use mathlib.Core.Path.{sym, ap, _∙_}
 use Prim.Native.Nat.{_<_, _≤_}
 use native.Mathlib.Omega.{arith}
 use borrow.Author.Tests.{lt-ltb, le-ltb}
 use denote.Ref.{now}
 use lib.ListN.{length}
 use Rattle.session.specs.declared.Phase.{Phase}
-use Rattle.session.specs.declared.Phase.the-variants as P
 use Rattle.session.specs.declared.Stepped.{Stepped}
 use Rattle.session.specs.Step.{Outcome, outcome}
 use Rattle.host.specs.Host.{phaseStep}
@@ -21,57 +20,56 @@ lent c =
     phaseStep (a .s) (now (a .delivery)) (now (a .set)) (now (a .names)) (now (a .table)) (now (a .reply)) (now (a .out))
 
 enum-known-p : tie.Need-enum-known-p
-enum-known-p c = search needs
+enum-known-p c = c .match .keys1
 
 packet-step-requires : tie.Need-packet-step-requires
-packet-step-requires c κs = search needs
+packet-step-requires c κs = tt
 
 enum-known-p-2 : tie.Need-enum-known-p-2
-enum-known-p-2 c = search needs
+enum-known-p-2 c = c .match .keys2
 
 response-step-requires : tie.Need-response-step-requires
-response-step-requires c κs = search needs
+response-step-requires c κs = tt
 
 enum-known-p-3 : tie.Need-enum-known-p-3
-enum-known-p-3 c = search needs
+enum-known-p-3 c = c .match .keys3
 
 switched-step-requires : tie.Need-switched-step-requires
-switched-step-requires c κs = search needs
+switched-step-requires c κs = tt
 
 enum-known-p-4 : tie.Need-enum-known-p-4
-enum-known-p-4 c = search needs
+enum-known-p-4 c = c .match .keys4
 
 table-step-requires : tie.Need-table-step-requires
-table-step-requires c κs = search needs
+table-step-requires c κs = tt
 
 enum-known-p-5 : tie.Need-enum-known-p-5
-enum-known-p-5 c = search needs
+enum-known-p-5 c = c .match .keys5
 
 between-step-requires : tie.Need-between-step-requires
-between-step-requires c κs = search needs
+between-step-requires c κs = tt
 
 enum-known-p-6 : tie.Need-enum-known-p-6
-enum-known-p-6 c = search needs
+enum-known-p-6 c = c .match .keys6
 
 region-step-requires : tie.Need-region-step-requires
-region-step-requires c κs = search needs
+region-step-requires c κs = tt
 
 enum-known-p-7 : tie.Need-enum-known-p-7
-enum-known-p-7 c = search needs
+enum-known-p-7 c = c .match .keys7
 
 untouched-requires : tie.Need-untouched-requires
-untouched-requires c κs = search needs
+untouched-requires c κs = tt
 
 returns : tie.Need-returns
 returns c =
     let g = c .before .before .before .before .before .before .before .before .before .before .before in
     let a = g .args in
     let l : length (now (a .out)) < 48 = omega arith in
-    let e : a .p ≡ P.Ended (c .before .before .before .p7 .given .0 .0) = cc in
-    ap (λ (r : Stepped). outcome r (now (a .table)) (now (a .reply)) (now (a .out))) (c .untouched .ensures) ∙ sym (ap (lent g) e ∙ simp (lt-ltb _ _ l))
+    ap (λ (r : Stepped). outcome r (now (a .table)) (now (a .reply)) (now (a .out))) (c .untouched .ensures) ∙ sym (ap (lent g) (c .before .before .before .p7 .given .1) ∙ simp (lt-ltb _ _ l))
 
 untouched-requires-2 : tie.Need-untouched-requires-2
-untouched-requires-2 c κs = search needs
+untouched-requires-2 c κs = tt
 
 same-length : tie.Need-same-length
 same-length c = search needs
@@ -85,8 +83,7 @@ same-length-3 c = search needs
 returns-2 : tie.Need-returns-2
 returns-2 c =
     let g = c .before .before .before .before .before .before .before .before .before .before .before .before .before .before .before in
-    let e : g .args .p ≡ P.Packet (c .before .before .before .before .before .before .before .p .given .0 .0) = cc in
-    c .before .before .packet-step .ensures ∙ sym (ap (lent g) e)
+    c .before .before .packet-step .ensures ∙ sym (ap (lent g) (c .before .before .before .before .before .before .before .p .given .1))
 
 same-length-4 : tie.Need-same-length-4
 same-length-4 c = search needs
@@ -100,8 +97,7 @@ same-length-6 c = search needs
 returns-3 : tie.Need-returns-3
 returns-3 c =
     let g = c .before .before .before .before .before .before .before .before .before .before .before .before .before .before .before .before .before in
-    let e : g .args .p ≡ P.Response (c .before .before .before .before .before .before .before .before .before .p2 .given .0 .0) = cc in
-    c .before .before .before .before .response-step .ensures ∙ sym (ap (lent g) e)
+    c .before .before .before .before .response-step .ensures ∙ sym (ap (lent g) (c .before .before .before .before .before .before .before .before .before .p2 .given .1))
 
 same-length-7 : tie.Need-same-length-7
 same-length-7 c = search needs
@@ -115,8 +111,7 @@ same-length-9 c = search needs
 returns-4 : tie.Need-returns-4
 returns-4 c =
     let g = c .before .before .before .before .before .before .before .before .before .before .before .before .before in
-    let e : g .args .p ≡ P.Switched (c .before .before .before .before .before .p3 .given .0 .0) = cc in
-    c .switched-step .ensures ∙ sym (ap (lent g) e)
+    c .switched-step .ensures ∙ sym (ap (lent g) (c .before .before .before .before .before .p3 .given .1))
 
 same-length-10 : tie.Need-same-length-10
 same-length-10 c = search needs
@@ -130,8 +125,7 @@ same-length-12 c = search needs
 returns-5 : tie.Need-returns-5
 returns-5 c =
     let g = c .before .before .before .before .before .before .before .before .before .before .before .before .before .before .before in
-    let e : g .args .p ≡ P.Table (c .before .before .before .before .before .before .before .p4 .given .0 .0) = cc in
-    c .before .before .table-step .ensures ∙ sym (ap (lent g) e)
+    c .before .before .table-step .ensures ∙ sym (ap (lent g) (c .before .before .before .before .before .before .before .p4 .given .1))
 
 same-length-13 : tie.Need-same-length-13
 same-length-13 c = search needs
@@ -145,8 +139,7 @@ same-length-15 c = search needs
 returns-6 : tie.Need-returns-6
 returns-6 c =
     let g = c .before .before .before .before .before .before .before .before .before .before .before .before .before in
-    let e : g .args .p ≡ P.Between (c .before .before .before .before .before .p5 .given .0 .0) (c .before .before .before .before .before .p5 .given .0 .1 .0) = cc in
-    c .between-step .ensures ∙ sym (ap (lent g) e)
+    c .between-step .ensures ∙ sym (ap (lent g) (c .before .before .before .before .before .p5 .given .1))
 
 same-length-16 : tie.Need-same-length-16
 same-length-16 c = search needs
@@ -160,16 +153,14 @@ same-length-18 c = search needs
 returns-7 : tie.Need-returns-7
 returns-7 c =
     let g = c .before .before .before .before .before .before .before .before .before .before .before .before .before .before .before in
-    let e : g .args .p ≡ P.Region (c .before .before .before .before .before .before .before .p6 .given .0 .0) (c .before .before .before .before .before .before .before .p6 .given .0 .1 .0) = cc in
-    c .before .before .region-step .ensures ∙ sym (ap (lent g) e)
+    c .before .before .region-step .ensures ∙ sym (ap (lent g) (c .before .before .before .before .before .before .before .p6 .given .1))
 
 returns-8 : tie.Need-returns-8
 returns-8 c =
     let g = c .before .before .before .before .before .before .before .before .before .before .before in
     let a = g .args in
     let l : 48 ≤ length (now (a .out)) = omega arith in
-    let e : a .p ≡ P.Ended (c .before .before .before .p7 .given .0 .0) = cc in
-    ap (λ (r : Stepped). outcome r (now (a .table)) (now (a .reply)) (now (a .out))) (c .untouched2 .ensures) ∙ sym (ap (lent g) e ∙ simp (le-ltb _ _ l))
+    ap (λ (r : Stepped). outcome r (now (a .table)) (now (a .reply)) (now (a .out))) (c .untouched2 .ensures) ∙ sym (ap (lent g) (c .before .before .before .p7 .given .1) ∙ simp (le-ltb _ _ l))
 
 pub phase-step-spec : {M : Type 1} → statement M
 phase-step-spec =

@@ -5,7 +5,7 @@ use Rattle.packet_phase.proofs.act.Statement.{statement}
 use Rattle.packet_phase.proofs.act.Tie as tie
 
 enum-known-v : tie.Need-enum-known-v
-enum-known-v c = search needs
+enum-known-v c = c .match .keys1
 
 next-requires : tie.Need-next-requires
 next-requires c κs = search needs
@@ -14,25 +14,25 @@ sent-requires : tie.Need-sent-requires
 sent-requires c κs = search needs
 
 enum-known-v-2 : tie.Need-enum-known-v-2
-enum-known-v-2 c = search needs
+enum-known-v-2 c = c .match .keys2
 
 holds-requires : tie.Need-holds-requires
-holds-requires c κs = search needs
+holds-requires c κs = tt
 
 enum-told : tie.Need-enum-told
-enum-told c = search needs
+enum-told c = c .match .keys3
 
 holds-requires-2 : tie.Need-holds-requires-2
-holds-requires-2 c κs = search needs
+holds-requires-2 c κs = tt
 
 enum-known-v-3 : tie.Need-enum-known-v-3
-enum-known-v-3 c = search needs
+enum-known-v-3 c = c .match .keys4
 
 moved-requires : tie.Need-moved-requires
-moved-requires c κs = search needs
+moved-requires c κs = tt
 
 enum-known-v-4 : tie.Need-enum-known-v-4
-enum-known-v-4 c = search needs
+enum-known-v-4 c = c .match .keys5
 
 next-requires-2 : tie.Need-next-requires-2
 next-requires-2 c κs = search needs
@@ -41,7 +41,7 @@ sent-requires-2 : tie.Need-sent-requires-2
 sent-requires-2 c κs = search needs
 
 enum-known-v-5 : tie.Need-enum-known-v-5
-enum-known-v-5 c = search needs
+enum-known-v-5 c = c .match .keys6
 
 next-requires-3 : tie.Need-next-requires-3
 next-requires-3 c κs = search needs
@@ -50,10 +50,10 @@ sent-requires-3 : tie.Need-sent-requires-3
 sent-requires-3 c κs = search needs
 
 enum-known-v-6 : tie.Need-enum-known-v-6
-enum-known-v-6 c = search needs
+enum-known-v-6 c = c .match .keys7
 
 moved-requires-2 : tie.Need-moved-requires-2
-moved-requires-2 c κs = search needs
+moved-requires-2 c κs = tt
 
 same-length : tie.Need-same-length
 same-length c = search needs
