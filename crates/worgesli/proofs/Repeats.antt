@@ -2,14 +2,15 @@
 -- so that the step is `regionOf`, and on its numbers that is `turnAt`. Assumes nothing.
 use mathlib.Core.Path.{_≡_, refl, sym, ap, _∙_}
 use mathlib.Core.Bool.{Bool, true, false, true≢false}
-use mathlib.Core.List.{List}
+use mathlib.Core.List.{List, [], _∷_}
 use Prim.Native.Nat.{ℕ, suc, _+_, _-_, _^_, min}
 use borrow.Author.Tests.{eqb-true, ltb-true, lt-leb}
 use lib.Dec.{ltb, eqb}
-use lib.ListN.{length, getD}
+use lib.ListN.{length, getD, replicate}
 use Rattle.base.specs.Choice.{pick}
 use Rattle.base.proofs.Ranges.{by-test, by-then, by-else}
 use Rattle.bundle.specs.Bundle.{wellFormed}
+use Rattle.command.specs.Command.{modeOf, commandOf}
 use Rattle.verdict.specs.Opening.{chunkOf}
 use Rattle.session.specs.declared.Region.{Region}
 use Rattle.session.specs.declared.Phase.the-variants as P
@@ -154,3 +155,15 @@ module _ (h n w d set names t y o : List ℕ) where
         → at-place (turnAt (openingOf (getD h 0 0) (getD h 1 0) (getD h 2 0)) n x d o) ≡ stepRaw r d set names t y o
     unfolding sessionOf
     turn-is f g = turns ∙ region-is f g
+
+-- ---- the premises can be met: a dump over USB with a chunk of the region done, with nothing outstanding, bytes outstanding, an empty read due
+module _ (outstanding due : ℕ) where
+  abbrev numbers : List ℕ
+  numbers = 2 ∷ 64 ∷ 0 ∷ 4096 ∷ 10000 ∷ 4096 ∷ outstanding ∷ due ∷ []
+
+  abbrev met : Bool
+  met = repeats (2 ∷ 0xFFFFFFFF ∷ 1 ∷ 5 ∷ []) numbers (regionAt numbers) (replicate 64 0) (replicate 48 0)
+
+repeats-met : (met 0 0 ≡ true) × (met 4096 0 ≡ true) × (met 0 1 ≡ true)
+unfolding repeats modeOf commandOf
+repeats-met = (refl, refl, refl)

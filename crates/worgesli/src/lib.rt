@@ -9,6 +9,8 @@ use entry::entry_at;
 use image::ImageId;
 use image::image_range;
 use packet::sahara_parse_packet;
+use place::put_back;
+use place::raw_at;
 use place::told;
 use raw::RawSession;
 use raw::RawStepped;
@@ -50,59 +52,6 @@ fn formed(set: &[u8], names: &[u8]) -> bool
         return false;
     };
     true
-}
-
-// The numbers of a session in place.
-fn raw_at(head: &[u32; 4], numbers: &[u64; 8], window: &[u8; 48]) -> RawSession
-    ensures { λ r. ⌜ r ≡ rawAt (now (head .entry)) (now (numbers .entry)) (now (window .entry)) ⌝ }
-{
-    let bytes = *window;
-    RawSession {
-        mode: head[0],
-        command: head[1],
-        backend: head[2],
-        phase: head[3],
-        reads: numbers[0],
-        count: numbers[1] as usize,
-        at: numbers[2] as usize,
-        base: numbers[3],
-        len: numbers[4],
-        done: numbers[5],
-        outstanding: numbers[6],
-        due: numbers[7],
-        window: bytes,
-    }
-}
-
-// What a step gave, put in place.
-fn put_back(
-    t: RawStepped,
-    head: &mut [u32; 4],
-    numbers: &mut [u64; 8],
-    window: &mut [u8; 48],
-) -> RawTold
-    ensures { λ r. ⌜ steppedAt (rawAt (now (head .exit)) (now (numbers .exit)) (now (window .exit))) r ≡ t ⌝ }
-{
-    let s = t.session;
-    let bytes = s.window;
-    *head = [s.mode, s.command, s.backend, s.phase];
-    *numbers = [
-        s.reads,
-        s.count as u64,
-        s.at as u64,
-        s.base,
-        s.len,
-        s.done,
-        s.outstanding,
-        s.due,
-    ];
-    *window = bytes;
-    RawTold {
-        taken: t.taken,
-        first: t.first,
-        second: t.second,
-        answer: t.answer,
-    }
 }
 
 // A step of a session in place, by its phase.

@@ -1,9 +1,12 @@
-// The steps that a region repeats, made on the session's numbers where they stand: the empty read, bytes handed out, each memory read behind the first.
+// A session in place: read, and put back; and the steps that a region repeats, made on its numbers where they stand: the empty read, bytes handed out,
+// each memory read behind the first.
 use build::sahara_send_mem_read64;
 use chunk::chunk_size;
 use chunk::due_after;
 use limits::reads_limit;
 use limits::region_limit;
+use raw::RawSession;
+use raw::RawStepped;
 use raw::RawTold;
 use session::Region;
 use turn::least;
@@ -15,7 +18,61 @@ ghost use Prim.Native.Nat.{ℕ, _+_, _^_, _<_, _≤_};
 ghost use lib.Dec.{eqb};
 ghost use lib.ListN.{length, getD};
 ghost use Rattle.base.specs.Choice.{pick};
+ghost use Rattle.worgesli.specs.Worgesli.{rawAt, steppedAt};
 ghost use Rattle.worgesli.specs.Place.{regionAt, countedAt, toldOf, placed, askedAt, handedAt, turnAt, goesOn, within, inRegion, repeats};
+
+// The numbers of a session in place.
+pub(crate) fn raw_at(head: &[u32; 4], numbers: &[u64; 8], window: &[u8; 48]) -> RawSession
+    ensures { λ r. ⌜ r ≡ rawAt (now (head .entry)) (now (numbers .entry)) (now (window .entry)) ⌝ }
+{
+    let bytes = *window;
+    RawSession {
+        mode: head[0],
+        command: head[1],
+        backend: head[2],
+        phase: head[3],
+        reads: numbers[0],
+        count: numbers[1] as usize,
+        at: numbers[2] as usize,
+        base: numbers[3],
+        len: numbers[4],
+        done: numbers[5],
+        outstanding: numbers[6],
+        due: numbers[7],
+        window: bytes,
+    }
+}
+
+// What a step gave, put in place.
+pub(crate) fn put_back(
+    t: RawStepped,
+    head: &mut [u32; 4],
+    numbers: &mut [u64; 8],
+    window: &mut [u8; 48],
+) -> RawTold
+    ensures { λ r. ⌜ steppedAt (rawAt (now (head .exit)) (now (numbers .exit)) (now (window .exit))) r ≡ t ⌝ }
+{
+    let s = t.session;
+    let bytes = s.window;
+    *head = [s.mode, s.command, s.backend, s.phase];
+    *numbers = [
+        s.reads,
+        s.count as u64,
+        s.at as u64,
+        s.base,
+        s.len,
+        s.done,
+        s.outstanding,
+        s.due,
+    ];
+    *window = bytes;
+    RawTold {
+        taken: t.taken,
+        first: t.first,
+        second: t.second,
+        answer: t.answer,
+    }
+}
 
 // What is told: bytes taken, the answer's number and its first value.
 pub(crate) fn told(taken: usize, answer: u32, first: u64) -> RawTold
