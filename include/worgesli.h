@@ -1,7 +1,7 @@
 /* Worgesli: a proved host of the Sahara protocol. C interface of libworgesli.a (x86-64 Linux; `rt staticlib worgesli`).
  *
  * No function does input or output, keeps anything, or allocates. A byte string crosses as a pointer and a length; NULL with length 0 is allowed.
- * The caller sees to two things: a pointer has as many bytes as its length says, and a buffer that is not const overlaps no other argument.
+ * The caller sees to two things: a pointer has as many bytes as its length, or as its array, says, and what is not const overlaps no other argument.
  * Everything else is defined, whatever the arguments. Refusals are the numbers 1..23 of the requirement.
  */
 #ifndef WORGESLI_H

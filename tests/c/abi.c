@@ -178,6 +178,11 @@ static void nulls(void)
     EXPECT(refused(r, 3) && same(r.session, s));
     r = worgesli_step(s, NULL, 0, none, 8, none, 8, NULL, 0, NULL, 0, out, sizeof out);
     EXPECT(r.answer == WORGESLI_GO && r.taken == 0 && same(r.session, s));
+    worgesli_session p = s;
+    worgesli_told a = worgesli_step_in_place(WORGESLI_PARTS(&p), NULL, 0, NULL, 0, NULL, 0, NULL, 0, NULL, 0, NULL, 0);
+    EXPECT(a.answer == WORGESLI_REFUSED && a.first == 1 && a.second == 0 && a.taken == 0 && same(p, s));
+    a = worgesli_step_in_place(WORGESLI_PARTS(&p), NULL, 0, none, 8, none, 8, NULL, 0, NULL, 0, out, sizeof out);
+    EXPECT(a.answer == WORGESLI_GO && a.first == 0 && a.second == 0 && a.taken == 0 && same(p, s));
     EXPECT(worgesli_check_images(NULL, 0) == 1 && worgesli_check_names(NULL, 0) == 2);
     EXPECT(worgesli_image_range(NULL, 0, 0, 0, 0).refused == 1);
     EXPECT(worgesli_entry_at(NULL, 0, 0).there == 0);

@@ -209,7 +209,7 @@ pub fn opened(mode: u32, command: u32, backend: u32) -> RawSession
 
 // ---- the phase
 
-fn bit(b: bool) -> u64
+pub fn bit(b: bool) -> u64
     ensures { λ r. ⌜ r ≡ pick b 1 0 ⌝ }
 {
     if b { 1 } else { 0 }

@@ -1,5 +1,5 @@
 -- The steps that a region repeats, on the session's eight large numbers: an empty read, bytes handed out, a memory read behind the first. They are the
--- step's own (`turn-is` of proofs/Place); these definitions only shorten the promises of the functions that make them.
+-- step's own (`turn-is` of proofs/Repeats); these definitions only shorten the promises of the functions that make them.
 use Prim.Native.Nat.{ℕ, suc, _+_, _-_, _^_, min}
 use mathlib.Core.Bool.{Bool, true, false}
 use mathlib.Core.List.{List, [], _∷_}

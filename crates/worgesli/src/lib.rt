@@ -1,29 +1,24 @@
-// The host for C and Rust. A slice crosses as a pointer and a length, a struct by value.
-mod place;
+// The host for C and Rust. A slice crosses as a pointer and a length, a struct by value, an array behind a reference as a pointer.
+mod place; // place.rt: a step of a session in place
 
 use build::sahara_reset;
-use bundle::Checked;
 use bundle::check_images;
 use bundle::check_names;
 use entry::entry_at;
 use image::ImageId;
 use image::image_range;
 use packet::sahara_parse_packet;
-use place::put_back;
 use place::raw_at;
-use place::told;
+use place::step_by_phase;
 use raw::RawSession;
 use raw::RawStepped;
-use raw::RawTold;
 use raw_packet::RawPacket;
 use raw_records::RawEntry;
 use raw_records::RawRange;
 ghost use mathlib.Core.Path.{_≡_};
-ghost use mathlib.Core.Bool.{true, false};
 ghost use Prim.Native.Nat.{_-_};
-ghost use Rattle.base.specs.Choice.{pick};
 ghost use Rattle.utf8.specs.Utf8.{utf8};
-ghost use Rattle.bundle.specs.Bundle.{wellFormed, imagesChecked, namesChecked};
+ghost use Rattle.bundle.specs.Bundle.{imagesChecked, namesChecked};
 ghost use Rattle.image.specs.Image.{rangeOf};
 ghost use Rattle.entry.specs.Entry.{entryAt};
 ghost use Rattle.selection.specs.Selection.{nextOf};
@@ -31,7 +26,7 @@ ghost use Rattle.packet.specs.Packet.{decodeOf};
 ghost use Rattle.raw.specs.Raw.{isSession, openedRaw};
 ghost use Rattle.raw_packet.specs.RawPacket.{rawPacket};
 ghost use Rattle.raw_records.specs.Records.{rawEntry, rawRange, checkedNumber};
-ghost use Rattle.worgesli.specs.Worgesli.{rawOutcome, stepRaw, rawAt, steppedAt, closedRaw, wantedRaw, resetOutcome, resetRaw};
+ghost use Rattle.worgesli.specs.Worgesli.{rawOutcome, stepRaw, closedRaw, wantedRaw, resetOutcome, resetRaw};
 
 // A session opened with a mode, a command or none, and a backend; no session where a number names none.
 #[no_mangle]
@@ -39,53 +34,6 @@ pub extern "C" fn worgesli_open(mode: u32, command: u32, backend: u32) -> RawSes
     ensures { λ r. ⌜ r ≡ openedRaw mode command backend ⌝ }
 {
     raw::opened(mode, command, backend)
-}
-
-// The image set and the names are well formed.
-fn formed(set: &[u8], names: &[u8]) -> bool
-    ensures { λ r. ⌜ r ≡ pick (wellFormed true (now (set .entry))) (wellFormed false (now (names .entry))) false ⌝ }
-{
-    let Checked::Good = check_images(set) else {
-        return false;
-    };
-    let Checked::Good = check_names(names) else {
-        return false;
-    };
-    true
-}
-
-// A step of a session in place, by its phase.
-fn step_by_phase(
-    head: &mut [u32; 4],
-    numbers: &mut [u64; 8],
-    window: &mut [u8; 48],
-    delivery: &[u8],
-    set: &[u8],
-    names: &[u8],
-    table: &mut [u8],
-    reply: &mut [u8],
-    out: &mut [u8],
-) -> RawTold
-    ensures { λ r. ⌜ rawOutcome (steppedAt (rawAt (now (head .exit)) (now (numbers .exit)) (now (window .exit))) r)
-        (now (table .exit)) (now (reply .exit)) (now (out .exit))
-        ≡ stepRaw (rawAt (now (head .entry)) (now (numbers .entry)) (now (window .entry)))
-        (now (delivery .entry)) (now (set .entry)) (now (names .entry)) (now (table .entry)) (now (reply .entry)) (now (out .entry)) ⌝ }
-{
-    let s = raw_at(head, numbers, window);
-    if !raw::is_session(s) {
-        return told(0, 8, 18);
-    }
-    let Checked::Good = check_images(set) else {
-        return told(0, 8, 1);
-    };
-    let Checked::Good = check_names(names) else {
-        return told(0, 8, 2);
-    };
-    // the phase is made of the numbers: copied out of the session, its tag would stall the processor
-    let session = raw::session_of(s);
-    let p = raw::phase_of(s);
-    let t = host::phase_step(session, p, delivery, set, names, table, reply, out);
-    put_back(raw::raw_stepped(t), head, numbers, window)
 }
 
 // One step: a delivery, the image set and the names, and the table, reply and out buffers.
@@ -132,44 +80,6 @@ pub extern "C" fn worgesli_step(
         second: told.second,
         answer: told.answer,
     }
-}
-
-// As worgesli_step, with the session in place: mode, command, backend and phase; reads, count, at, base, len, done, outstanding and due; the window.
-#[no_mangle]
-pub extern "C" fn worgesli_step_in_place(
-    head: &mut [u32; 4],
-    numbers: &mut [u64; 8],
-    window: &mut [u8; 48],
-    delivery: &[u8],
-    set: &[u8],
-    names: &[u8],
-    table: &mut [u8],
-    reply: &mut [u8],
-    out: &mut [u8],
-) -> RawTold
-    ensures { λ r. ⌜ rawOutcome (steppedAt (rawAt (now (head .exit)) (now (numbers .exit)) (now (window .exit))) r)
-        (now (table .exit)) (now (reply .exit)) (now (out .exit))
-        ≡ stepRaw (rawAt (now (head .entry)) (now (numbers .entry)) (now (window .entry)))
-        (now (delivery .entry)) (now (set .entry)) (now (names .entry)) (now (table .entry)) (now (reply .entry)) (now (out .entry)) ⌝ }
-{
-    let x = place::region_at(numbers);
-    if place::repeated(head, numbers, x, table, out) {
-        if formed(set, names) {
-            let opening = raw::opening_of(head[0], head[1], head[2]);
-            return place::turn(opening, numbers, x, delivery, out);
-        }
-    }
-    step_by_phase(
-        head,
-        numbers,
-        window,
-        delivery,
-        set,
-        names,
-        table,
-        reply,
-        out,
-    )
 }
 
 // The channel was closed.

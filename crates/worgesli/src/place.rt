@@ -1,6 +1,9 @@
-// A session in place: read, and put back; and the steps that a region repeats, made on its numbers where they stand: the empty read, bytes handed out,
-// each memory read behind the first.
+// A step of a session in place. Those that a region repeats, the empty read, bytes handed out and each memory read behind the first, are made on its
+// numbers where they stand; for all others it is read, stepped and put back.
 use build::sahara_send_mem_read64;
+use bundle::Checked;
+use bundle::check_images;
+use bundle::check_names;
 use chunk::chunk_size;
 use chunk::due_after;
 use limits::reads_limit;
@@ -8,6 +11,7 @@ use limits::region_limit;
 use raw::RawSession;
 use raw::RawStepped;
 use raw::RawTold;
+use raw::bit;
 use session::Region;
 use turn::least;
 use verdict::Opening;
@@ -18,7 +22,8 @@ ghost use Prim.Native.Nat.{ℕ, _+_, _^_, _<_, _≤_};
 ghost use lib.Dec.{eqb};
 ghost use lib.ListN.{length, getD};
 ghost use Rattle.base.specs.Choice.{pick};
-ghost use Rattle.worgesli.specs.Worgesli.{rawAt, steppedAt};
+ghost use Rattle.bundle.specs.Bundle.{wellFormed};
+ghost use Rattle.worgesli.specs.Worgesli.{rawOutcome, stepRaw, rawAt, steppedAt};
 ghost use Rattle.worgesli.specs.Place.{regionAt, countedAt, toldOf, placed, askedAt, handedAt, turnAt, goesOn, within, inRegion, repeats};
 
 // The numbers of a session in place.
@@ -44,7 +49,7 @@ pub(crate) fn raw_at(head: &[u32; 4], numbers: &[u64; 8], window: &[u8; 48]) -> 
 }
 
 // What a step gave, put in place.
-pub(crate) fn put_back(
+fn put_back(
     t: RawStepped,
     head: &mut [u32; 4],
     numbers: &mut [u64; 8],
@@ -74,8 +79,8 @@ pub(crate) fn put_back(
     }
 }
 
-// What is told: bytes taken, the answer's number and its first value.
-pub(crate) fn told(taken: usize, answer: u32, first: u64) -> RawTold
+// What is told: bytes taken, the answer's number (session/specs/Answers) and its first value.
+fn told(taken: usize, answer: u32, first: u64) -> RawTold
     ensures { λ r. ⌜ r ≡ toldOf taken answer first ⌝ }
 {
     RawTold {
@@ -84,12 +89,6 @@ pub(crate) fn told(taken: usize, answer: u32, first: u64) -> RawTold
         second: 0,
         answer,
     }
-}
-
-fn bit(b: bool) -> u64
-    ensures { λ r. ⌜ r ≡ pick b 1 0 ⌝ }
-{
-    if b { 1 } else { 0 }
 }
 
 // The numbers with other memory reads, bytes done and outstanding, and due.
@@ -152,7 +151,7 @@ fn goes_on(x: Region) -> bool
 }
 
 // A step that the region x, told by the numbers, repeats.
-pub(crate) fn turn(
+fn turn(
     opening: Opening,
     numbers: &mut [u64; 8],
     x: Region,
@@ -204,7 +203,7 @@ fn in_region(mode: u32, command: u32, backend: u32, phase: u32, due: u64) -> boo
 }
 
 // The region that the numbers tell.
-pub(crate) fn region_at(numbers: &[u64; 8]) -> Region
+fn region_at(numbers: &[u64; 8]) -> Region
     ensures { λ r. ⌜ r ≡ regionAt (now (numbers .entry)) ⌝ }
 {
     Region {
@@ -218,17 +217,96 @@ pub(crate) fn region_at(numbers: &[u64; 8]) -> Region
 }
 
 // Whether the session's next step is one that the region x repeats, and none of 18 and 3 refuses it.
-pub(crate) fn repeated(
-    head: &[u32; 4],
-    numbers: &[u64; 8],
-    x: Region,
-    table: &[u8],
-    out: &[u8],
-) -> bool
+fn repeated(head: &[u32; 4], numbers: &[u64; 8], x: Region, table: &[u8], out: &[u8]) -> bool
     ensures { λ r. ⌜ r ≡ repeats (now (head .entry)) (now (numbers .entry)) x (now (table .entry)) (now (out .entry)) ⌝ }
 {
     if in_region(head[0], head[1], head[2], head[3], numbers[7]) {
         return is_within(numbers[0], numbers[1] as usize, x, table, out);
     }
     false
+}
+
+// The image set and the names are well formed.
+fn formed(set: &[u8], names: &[u8]) -> bool
+    ensures { λ r. ⌜ r ≡ pick (wellFormed true (now (set .entry))) (wellFormed false (now (names .entry))) false ⌝ }
+{
+    let Checked::Good = check_images(set) else {
+        return false;
+    };
+    let Checked::Good = check_names(names) else {
+        return false;
+    };
+    true
+}
+
+// A step of a session in place, by its phase.
+pub(crate) fn step_by_phase(
+    head: &mut [u32; 4],
+    numbers: &mut [u64; 8],
+    window: &mut [u8; 48],
+    delivery: &[u8],
+    set: &[u8],
+    names: &[u8],
+    table: &mut [u8],
+    reply: &mut [u8],
+    out: &mut [u8],
+) -> RawTold
+    ensures { λ r. ⌜ rawOutcome (steppedAt (rawAt (now (head .exit)) (now (numbers .exit)) (now (window .exit))) r)
+        (now (table .exit)) (now (reply .exit)) (now (out .exit))
+        ≡ stepRaw (rawAt (now (head .entry)) (now (numbers .entry)) (now (window .entry)))
+        (now (delivery .entry)) (now (set .entry)) (now (names .entry)) (now (table .entry)) (now (reply .entry)) (now (out .entry)) ⌝ }
+{
+    let s = raw_at(head, numbers, window);
+    if !raw::is_session(s) {
+        return told(0, 8, 18);
+    }
+    let Checked::Good = check_images(set) else {
+        return told(0, 8, 1);
+    };
+    let Checked::Good = check_names(names) else {
+        return told(0, 8, 2);
+    };
+    // the phase is made of the numbers: copied out of the session, its tag would stall the processor
+    let session = raw::session_of(s);
+    let p = raw::phase_of(s);
+    let t = host::phase_step(session, p, delivery, set, names, table, reply, out);
+    put_back(raw::raw_stepped(t), head, numbers, window)
+}
+
+// As worgesli_step, with the session in place: mode, command, backend and phase; reads, count, at, base, len, done, outstanding and due; the window.
+#[no_mangle]
+pub extern "C" fn worgesli_step_in_place(
+    head: &mut [u32; 4],
+    numbers: &mut [u64; 8],
+    window: &mut [u8; 48],
+    delivery: &[u8],
+    set: &[u8],
+    names: &[u8],
+    table: &mut [u8],
+    reply: &mut [u8],
+    out: &mut [u8],
+) -> RawTold
+    ensures { λ r. ⌜ rawOutcome (steppedAt (rawAt (now (head .exit)) (now (numbers .exit)) (now (window .exit))) r)
+        (now (table .exit)) (now (reply .exit)) (now (out .exit))
+        ≡ stepRaw (rawAt (now (head .entry)) (now (numbers .entry)) (now (window .entry)))
+        (now (delivery .entry)) (now (set .entry)) (now (names .entry)) (now (table .entry)) (now (reply .entry)) (now (out .entry)) ⌝ }
+{
+    let x = region_at(numbers);
+    if repeated(head, numbers, x, table, out) {
+        if formed(set, names) {
+            let opening = raw::opening_of(head[0], head[1], head[2]);
+            return turn(opening, numbers, x, delivery, out);
+        }
+    }
+    step_by_phase(
+        head,
+        numbers,
+        window,
+        delivery,
+        set,
+        names,
+        table,
+        reply,
+        out,
+    )
 }

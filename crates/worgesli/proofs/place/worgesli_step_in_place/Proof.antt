@@ -1,4 +1,4 @@
--- `worgesli_step_in_place` meets its contract: where the region repeats a step, by `turn-is`; else it is `step_by_phase`. Assumes nothing.
+-- `place::worgesli_step_in_place` meets its contract: where the region repeats a step, by `turn-is`; else it is `step_by_phase`. Assumes nothing.
 use mathlib.Core.Path.{_≡_, refl, sym, ap, _∙_}
 use mathlib.Core.Bool.{true, false}
 use Prim.Native.Nat.{_+_, _^_}
@@ -16,8 +16,8 @@ use Rattle.worgesli.specs.Worgesli.{rawOutcome, rawAt, steppedAt}
 use Rattle.worgesli.specs.Place.{regionAt, Placed, turnAt, repeats}
 use Rattle.worgesli.proofs.Repeats.{no, Repeats, repeats-are, turn-is}
 use borrow.Author.Needs.{needs}
-use Rattle.worgesli.proofs.worgesli_step_in_place.Statement.{statement}
-use Rattle.worgesli.proofs.worgesli_step_in_place.Tie as tie
+use Rattle.worgesli.proofs.place.worgesli_step_in_place.Statement.{statement}
+use Rattle.worgesli.proofs.place.worgesli_step_in_place.Tie as tie
 
 -- where the function begins and the region is read, from behind the two tests
 abbrev begun : tie.Then2 → tie.Start

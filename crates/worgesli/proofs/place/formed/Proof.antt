@@ -1,4 +1,4 @@
--- `formed` meets its contract: a check says Good just where the bundle is well formed. Assumes nothing.
+-- `place::formed` meets its contract: a check says Good just where the bundle is well formed. Assumes nothing.
 use mathlib.Core.Path.{_≡_, sym, _∙_}
 use mathlib.Core.Bool.{true, false}
 use denote.Ref.{now}
@@ -6,8 +6,8 @@ use Rattle.bundle.specs.Bundle.{wellFormed, imagesChecked, namesChecked}
 use Rattle.bundle.specs.declared.Checked.the-variants as C
 use Rattle.bundle.proofs.Laws.{checked-good, checked-refused}
 use borrow.Author.Needs.{needs}
-use Rattle.worgesli.proofs.formed.Statement.{statement}
-use Rattle.worgesli.proofs.formed.Tie as tie
+use Rattle.worgesli.proofs.place.formed.Statement.{statement}
+use Rattle.worgesli.proofs.place.formed.Tie as tie
 
 check-images-requires : tie.Need-check-images-requires
 check-images-requires c κs = tt

@@ -1,4 +1,4 @@
--- `step_by_phase` meets its contract: by whether the numbers are a session's, the two checks, then the phase's own contract. Assumes nothing.
+-- `place::step_by_phase` meets its contract: by whether the numbers are a session's, the two checks, then the phase's own contract. Assumes nothing.
 use mathlib.Core.Path.{_≡_, sym, ap, _∙_}
 use mathlib.Core.Bool.{Bool, true, false}
 use denote.Ref.{now}
@@ -15,8 +15,8 @@ use Rattle.raw.specs.Raw.{phaseOf, sessionOf, isSession}
 use Rattle.worgesli.specs.Worgesli.{rawOutcome, told, rawAt, steppedAt}
 use Rattle.worgesli.proofs.Laws.{step-no, step-images, step-names, step-formed}
 use borrow.Author.Needs.{needs}
-use Rattle.worgesli.proofs.step_by_phase.Statement.{statement}
-use Rattle.worgesli.proofs.step_by_phase.Tie as tie
+use Rattle.worgesli.proofs.place.step_by_phase.Statement.{statement}
+use Rattle.worgesli.proofs.place.step_by_phase.Tie as tie
 
 -- where the function begins, and the session in place there, from behind the first test
 abbrev begun : tie.After-is-session → tie.Start
