@@ -42,7 +42,6 @@ ghost use Rattle.raw.specs.Raw.{
   isSession,
   openedRaw,
   rawStepped,
-  refusedRaw,
   noSession,
 };
 
@@ -405,22 +404,15 @@ pub fn raw_stepped(s: Stepped) -> RawStepped
     }
 }
 
-// Refused, the numbers as they were and nothing taken.
-pub fn refused(r: RawSession, why: u64) -> RawStepped
-    ensures { λ x. ⌜ x ≡ refusedRaw r why ⌝ }
-{
-    RawStepped {
-        session: r,
-        taken: 0,
-        first: why,
-        second: 0,
-        answer: 8,
-    }
-}
-
 // What is given for numbers that are no session's: they come back as they were, refused 18.
 pub fn no_session(r: RawSession) -> RawStepped
     ensures { λ x. ⌜ x ≡ noSession r ⌝ }
 {
-    refused(r, 18)
+    RawStepped {
+        session: r,
+        taken: 0,
+        first: 18,
+        second: 0,
+        answer: 8,
+    }
 }

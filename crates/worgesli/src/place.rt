@@ -175,6 +175,7 @@ fn turn(
     hand_out(opening, numbers, x, delivery)
 }
 
+// The out buffer has room, the counts are within their limits, and the region goes on.
 fn is_within(reads: u64, k: usize, x: Region, table: &[u8], out: &[u8]) -> bool
     ensures { λ r. ⌜ r ≡ within reads k x (now (table .entry)) (now (out .entry)) ⌝ }
 {
@@ -190,6 +191,7 @@ fn is_within(reads: u64, k: usize, x: Region, table: &[u8], out: &[u8]) -> bool
     goes_on(x)
 }
 
+// The numbers of a session in a region.
 fn in_region(mode: u32, command: u32, backend: u32, phase: u32, due: u64) -> bool
     ensures { λ r. ⌜ r ≡ inRegion mode command backend phase due ⌝ }
 {

@@ -223,7 +223,8 @@ impl Driver {
     /// A step lent what was read and not taken yet.
     #[inline]
     fn step(&mut self) -> raw::Told {
-        self.session.step_told(
+        raw::step_in_place(
+            self.session.raw_mut(),
             &self.input[self.from..self.to],
             self.set.bytes(),
             self.names.bytes(),

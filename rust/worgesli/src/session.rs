@@ -25,6 +25,12 @@ impl Session {
         &self.0
     }
 
+    /// For a step in place.
+    #[inline]
+    pub(crate) fn raw_mut(&mut self) -> &mut raw::Session {
+        &mut self.0
+    }
+
     /// One step: gives the bytes taken of the delivery and what is to be done. Any bytes and buffers are answered.
     pub fn step(
         &mut self,
@@ -35,22 +41,8 @@ impl Session {
         reply: &mut [u8],
         out: &mut [u8],
     ) -> (usize, Answer) {
-        let told = self.step_told(delivery, set, names, table, reply, out);
+        let told = raw::step_in_place(&mut self.0, delivery, set, names, table, reply, out);
         (told.taken, answer(&told))
-    }
-
-    /// The same, as the archive tells it.
-    #[inline]
-    pub(crate) fn step_told(
-        &mut self,
-        delivery: &[u8],
-        set: &[u8],
-        names: &[u8],
-        table: &mut [u8],
-        reply: &mut [u8],
-        out: &mut [u8],
-    ) -> raw::Told {
-        raw::step_in_place(&mut self.0, delivery, set, names, table, reply, out)
     }
 
     /// The channel was closed: refused (23), or (4) where the session had ended.

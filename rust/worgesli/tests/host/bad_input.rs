@@ -6,7 +6,7 @@ use worgesli::{raw, Backend, Command, ImageSet, Mode, NameList, Session};
 
 const EMPTY: [u8; 8] = [0; 8];
 
-/// A step of the session by value; and of a copy in place, in buffers of its own, which must come to the same.
+/// A step of the session in place; and by value, in buffers of its own, which must come to the same.
 fn step(
     s: raw::Session,
     delivery: &[u8],
@@ -18,8 +18,8 @@ fn step(
 ) -> raw::Stepped {
     let mut place = s;
     let (mut t, mut y, mut o) = (table.to_vec(), reply.to_vec(), out.to_vec());
-    let told = raw::step_in_place(&mut place, delivery, set, names, &mut t, &mut y, &mut o);
-    let r = raw::step(s, delivery, set, names, table, reply, out);
+    let r = raw::step(s, delivery, set, names, &mut t, &mut y, &mut o);
+    let told = raw::step_in_place(&mut place, delivery, set, names, table, reply, out);
     let raw::Told { taken, first, second, answer } = told;
     assert_eq!(raw::Stepped { session: place, taken, first, second, answer }, r, "{s:?}");
     assert!(t == table && y == reply && o == out, "{s:?}");
