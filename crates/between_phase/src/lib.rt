@@ -1,7 +1,7 @@
 // The phase between the regions of a dump: the next selected entry is opened, or the dump is over.
 use entry::entry_at;
 use filename::NameCheck;
-use filename::check_opening;
+use filename::check_open;
 use limits::between_limit;
 use selection::next_selected;
 use session::Answer;
@@ -17,19 +17,20 @@ ghost use mathlib.Core.Bool.{true};
 ghost use Prim.Native.Nat.{_≤_};
 ghost use lib.ListN.{length};
 ghost use Rattle.entry.specs.Entry.{entryOf, filenameOf, there};
-ghost use Rattle.filename.specs.Filename.{openingCheck};
-ghost use Rattle.session.specs.Step.{outcome, openingOf, betweenOf};
+ghost use Rattle.filename.specs.Filename.{openCheck};
+ghost use Rattle.session.specs.Outcome.{outcome};
+ghost use Rattle.session.specs.BetweenPhase.{openOf, betweenOf};
 ghost use Rattle.session.specs.Guard.{betweenStep};
 
 // Entry i of the table is opened by its name: 19, 20.
 fn open_region(s: Session, k: usize, i: usize, table: &[u8]) -> Stepped
     requires { ⌜ there 8 (now table) i ≡ true ⌝ }
-    ensures { λ r. ⌜ r ≡ openingOf 8 s k i (entryOf 8 (now (table .entry)) i) (openingCheck (filenameOf 8 (entryOf 8 (now (table .entry)) i))) ⌝ }
+    ensures { λ r. ⌜ r ≡ openOf 8 s k i (entryOf 8 (now (table .entry)) i) (openCheck (filenameOf 8 (entryOf 8 (now (table .entry)) i))) ⌝ }
 {
     let at = entry_at(table, i);
     let entry = at.entry;
     let name = entry.filename;
-    let check = check_opening(&name);
+    let check = check_open(&name);
     match check {
         NameCheck::Refused(why) => moved(s, Phase::Ended(0), 0, Answer::Refused(why)),
         NameCheck::Good => {

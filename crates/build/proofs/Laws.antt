@@ -8,7 +8,7 @@ use lib.ListN.{length, take, drop, length-append, length-drop}
 use lib.Seq.{sets, take-at, drop-at}
 use Rattle.base.proofs.Lists.{sets-front}
 use Rattle.field.specs.Field.{leBytes}
-use Rattle.build.specs.Build.{fields, bytesOf, sizeOf, front, outcome, buildOf}
+use Rattle.build.specs.Build.{fields, bytesOf, sizeOf, front, buildOutcome, buildOf}
 use Rattle.build.specs.declared.Request.{Request}
 use Rattle.build.specs.declared.Request.the-variants as Q
 use Rattle.build.specs.declared.Built.the-variants as T
@@ -51,16 +51,16 @@ pub stored-front : (q : Request) (o : List ℕ) → sizeOf q ≤ length o → se
 stored-front q o h = sets-front (bytesOf q) o (rw length-bytes h) ∙ ap (λ (k : ℕ). bytesOf q ++ drop k o) (length-bytes q)
 
 -- refused below 48 bytes, else built
-pub build-short : (q : Request) (o : List ℕ) → length o < 48 → buildOf q o ≡ outcome (T.Refused 3) o
+pub build-short : (q : Request) (o : List ℕ) → length o < 48 → buildOf q o ≡ buildOutcome (T.Refused 3) o
 unfolding buildOf
 build-short q o h = simp (lt-ltb _ _ h)
 
-pub build-long : (q : Request) (o : List ℕ) → 48 ≤ length o → buildOf q o ≡ outcome (T.Send (sizeOf q)) (front q o)
+pub build-long : (q : Request) (o : List ℕ) → 48 ≤ length o → buildOf q o ≡ buildOutcome (T.Send (sizeOf q)) (front q o)
 unfolding buildOf
 build-long q o h = simp (le-ltb _ _ h)
 
 -- so a packet stored at 0 is what the build leaves
-pub builds : (q : Request) (o e : List ℕ) → 48 ≤ length o → e ≡ sets o 0 (bytesOf q) → outcome (T.Send (sizeOf q)) e ≡ buildOf q o
+pub builds : (q : Request) (o e : List ℕ) → 48 ≤ length o → e ≡ sets o 0 (bytesOf q) → buildOutcome (T.Send (sizeOf q)) e ≡ buildOf q o
 builds q o e h s =
     let m : sizeOf q ≤ 48 = size-most q in
-    ap (outcome (T.Send (sizeOf q))) (s ∙ stored-front q o (omega arith)) ∙ sym (build-long q o h)
+    ap (buildOutcome (T.Send (sizeOf q))) (s ∙ stored-front q o (omega arith)) ∙ sym (build-long q o h)

@@ -27,18 +27,18 @@ abbrev pub longs : List ℕ → List ℕ
 longs = fields 8
 
 -- a packet: its command, its whole length, its body
-abbrev pub packetOf : ℕ → List ℕ → List ℕ
-packetOf cmd body = words (cmd ∷ (8 + length body) ∷ []) ++ body
+abbrev pub packetBytes : ℕ → List ℕ → List ℕ
+packetBytes cmd body = words (cmd ∷ (8 + length body) ∷ []) ++ body
 
 -- the bytes of each packet; 7, 0x0c and 0x0d are numbers of no decoded kind: Reset, SwitchMode, Execute
 unfoldable pub bytesOf : Request → List ℕ
-bytesOf (Q.HelloResp m) = packetOf (kindNumber K.HelloResp) (words (2 ∷ 1 ∷ 0 ∷ modeNumber m ∷ 0 ∷ 0 ∷ 0 ∷ 0 ∷ 0 ∷ 0 ∷ []))
-bytesOf Q.Done = packetOf (kindNumber K.Done) []
-bytesOf (Q.Execute c) = packetOf 0x0d (words (commandNumber c ∷ []))
-bytesOf (Q.ExecuteData c) = packetOf (kindNumber K.ExecuteData) (words (commandNumber c ∷ []))
-bytesOf Q.SwitchMode = packetOf 0x0c (words (modeNumber M.WaitingForImage ∷ []))
-bytesOf Q.Reset = packetOf 7 []
-bytesOf (Q.MemRead64 a k) = packetOf (kindNumber K.MemRead64) (longs (a ∷ k ∷ []))
+bytesOf (Q.HelloResp m) = packetBytes (kindNumber K.HelloResp) (words (2 ∷ 1 ∷ 0 ∷ modeNumber m ∷ 0 ∷ 0 ∷ 0 ∷ 0 ∷ 0 ∷ 0 ∷ []))
+bytesOf Q.Done = packetBytes (kindNumber K.Done) []
+bytesOf (Q.Execute c) = packetBytes 0x0d (words (commandNumber c ∷ []))
+bytesOf (Q.ExecuteData c) = packetBytes (kindNumber K.ExecuteData) (words (commandNumber c ∷ []))
+bytesOf Q.SwitchMode = packetBytes 0x0c (words (modeNumber M.WaitingForImage ∷ []))
+bytesOf Q.Reset = packetBytes 7 []
+bytesOf (Q.MemRead64 a k) = packetBytes (kindNumber K.MemRead64) (longs (a ∷ k ∷ []))
 
 -- the size of each: 01's figures
 abbrev pub sizeOf : Request → ℕ
@@ -50,17 +50,17 @@ sizeOf Q.SwitchMode = 12
 sizeOf Q.Reset = 8
 sizeOf (Q.MemRead64 a k) = 24
 
--- a build's whole outcome: the answer, and the out buffer afterwards
-pub record Outcome : Type 0 where
+-- a build's whole buildOutcome: the answer, and the out buffer afterwards
+pub record BuildOutcome : Type 0 where
   pub built : Built
   pub out : List ℕ
 
-abbrev pub outcome : Built → List ℕ → Outcome
-outcome b o = record { built = b; out = o }
+abbrev pub buildOutcome : Built → List ℕ → BuildOutcome
+buildOutcome b o = record { built = b; out = o }
 
 -- the out buffer with a packet as its first bytes
 abbrev pub front : Request → List ℕ → List ℕ
 front q o = bytesOf q ++ drop (sizeOf q) o
 
-unfoldable pub buildOf : Request → List ℕ → Outcome
-buildOf q o = pick (ltb (length o) 48) (outcome (T.Refused 3) o) (outcome (T.Send (sizeOf q)) (front q o))
+unfoldable pub buildOf : Request → List ℕ → BuildOutcome
+buildOf q o = pick (ltb (length o) 48) (buildOutcome (T.Refused 3) o) (buildOutcome (T.Send (sizeOf q)) (front q o))

@@ -11,7 +11,7 @@ use lib.Dec.{ltb, leb, eqb}
 use lib.ListN.{length}
 use Rattle.base.specs.Choice.{pick}
 use Rattle.base.proofs.Ranges.{by-else, by-then, either}
-use Rattle.bundle.specs.Bundle.{countOf, sizeOf, startOf, lengthOf, dataOf, absent, slotGood, slotsGood, wellFormed, slotOf}
+use Rattle.bundle.specs.Bundle.{countOf, dataSizeOf, slotStartOf, slotLengthOf, dataFrom, absent, slotGood, slotsGood, wellFormed, slotOf}
 use Rattle.bundle.specs.declared.Checked.the-variants as C
 use Rattle.bundle.specs.declared.Slot.the-variants as S
 
@@ -60,7 +60,7 @@ slots-each gaps b (suc k) i (suc j) h l =
 pub record Formed (gaps : Bool) (b : List ℕ) : Type 0 where
   pub header : 8 ≤ length b
   pub few : countOf b ≤ 64
-  pub exact : length b ≡ 8 + 8 * countOf b + sizeOf b
+  pub exact : length b ≡ 8 + 8 * countOf b + dataSizeOf b
   pub each : (i : ℕ) → i < countOf b → slotGood gaps b i ≡ true
 
 pub formed : (gaps : Bool) (b : List ℕ) → wellFormed gaps b ≡ true → Formed gaps b
@@ -68,7 +68,7 @@ unfolding wellFormed
 formed gaps b h =
     let r = by-else (ltb (length b) 8) false _ false≢true h in
     let s = by-else (ltb 64 (countOf b)) false _ false≢true (r .1) in
-    let t = by-then (eqb (length b) (8 + 8 * countOf b + sizeOf b)) (slotsGood gaps b (countOf b) 0) false false≢true (s .1) in
+    let t = by-then (eqb (length b) (8 + 8 * countOf b + dataSizeOf b)) (slotsGood gaps b (countOf b) 0) false false≢true (s .1) in
     record {
       header = ltb-false _ _ (r .0);
       few = ltb-false _ _ (s .0);
@@ -78,11 +78,11 @@ formed gaps b h =
 
 -- a present slot of a well-formed bundle lies within its bytes
 pub slot-fits : (gaps : Bool) (b : List ℕ) (i : ℕ) → wellFormed gaps b ≡ true → i < countOf b → absent b i ≡ false
-    → dataOf b + startOf b i + lengthOf b i ≤ length b
+    → dataFrom b + slotStartOf b i + slotLengthOf b i ≤ length b
 slot-fits gaps b i h l p =
     let f = formed gaps b h in
-    let g : leb (startOf b i + lengthOf b i) (sizeOf b) ≡ true = rw p at (f .each i l) in
-    let r : startOf b i + lengthOf b i ≤ sizeOf b = leb-true _ _ g in
+    let g : leb (slotStartOf b i + slotLengthOf b i) (dataSizeOf b) ≡ true = rw p at (f .each i l) in
+    let r : slotStartOf b i + slotLengthOf b i ≤ dataSizeOf b = leb-true _ _ g in
     omega arith
 
 -- a slot that is marked absent is told so
@@ -90,16 +90,16 @@ pub slot-absent : (gaps : Bool) (b : List ℕ) (i : ℕ) → wellFormed gaps b �
 unfolding slotOf
 slot-absent gaps b i h l p =
     let f = formed gaps b h in
-    let d : dataOf b ≤ length b = omega arith in
+    let d : dataFrom b ≤ length b = omega arith in
     simp (le-ltb _ _ (f .header), le-ltb _ _ d, lt-leb _ _ l, p)
 
 -- any other slot of a well-formed bundle is told with its place and length
 pub slot-present : (gaps : Bool) (b : List ℕ) (i : ℕ) → wellFormed gaps b ≡ true → i < countOf b → absent b i ≡ false
-    → slotOf b i ≡ S.At (dataOf b + startOf b i) (lengthOf b i)
+    → slotOf b i ≡ S.At (dataFrom b + slotStartOf b i) (slotLengthOf b i)
 unfolding slotOf
 slot-present gaps b i h l p =
     let f = formed gaps b h in
-    let d : dataOf b ≤ length b = omega arith in
+    let d : dataFrom b ≤ length b = omega arith in
     simp (le-ltb _ _ (f .header), le-ltb _ _ d, lt-leb _ _ l, p, le-ltb _ _ (slot-fits gaps b i h l p))
 
 -- in a well-formed name list no slot is absent
@@ -127,11 +127,11 @@ pub slot-within : (b : List ℕ) (i s l : ℕ) → slotOf b i ≡ S.At s l → s
 unfolding slotOf
 slot-within b i s l h =
     let r = by-else (ltb (length b) 8) S.Missing _ missing≢at h in
-    let d = by-else (ltb (length b) (dataOf b)) S.Missing _ missing≢at (r .1) in
+    let d = by-else (ltb (length b) (dataFrom b)) S.Missing _ missing≢at (r .1) in
     let n = by-else (leb (countOf b) i) S.Missing _ missing≢at (d .1) in
     let p = by-else (absent b i) S.Absent _ absent≢at (n .1) in
-    let f = by-else (ltb (length b) (dataOf b + startOf b i + lengthOf b i)) S.Missing _ missing≢at (p .1) in
-    let e : dataOf b + startOf b i ≡ s = cc in
-    let g : lengthOf b i ≡ l = cc in
-    let r : dataOf b + startOf b i + lengthOf b i ≤ length b = ltb-false _ _ (f .0) in
+    let f = by-else (ltb (length b) (dataFrom b + slotStartOf b i + slotLengthOf b i)) S.Missing _ missing≢at (p .1) in
+    let e : dataFrom b + slotStartOf b i ≡ s = cc in
+    let g : slotLengthOf b i ≡ l = cc in
+    let r : dataFrom b + slotStartOf b i + slotLengthOf b i ≤ length b = ltb-false _ _ (f .0) in
     omega arith

@@ -17,25 +17,25 @@ use Rattle.bundle.specs.declared.Slot.the-variants as S
 abbrev pub countOf : List ℕ → ℕ
 countOf b = le 4 (drop 0 b)
 
-abbrev pub sizeOf : List ℕ → ℕ
-sizeOf b = le 4 (drop 4 b)
+abbrev pub dataSizeOf : List ℕ → ℕ
+dataSizeOf b = le 4 (drop 4 b)
 
-abbrev pub startOf : List ℕ → ℕ → ℕ
-startOf b i = le 4 (drop (8 + 4 * i) b)
+abbrev pub slotStartOf : List ℕ → ℕ → ℕ
+slotStartOf b i = le 4 (drop (8 + 4 * i) b)
 
-abbrev pub lengthOf : List ℕ → ℕ → ℕ
-lengthOf b i = le 4 (drop (8 + 4 * countOf b + 4 * i) b)
+abbrev pub slotLengthOf : List ℕ → ℕ → ℕ
+slotLengthOf b i = le 4 (drop (8 + 4 * countOf b + 4 * i) b)
 
 -- where the data begins in the bundle's bytes
-abbrev pub dataOf : List ℕ → ℕ
-dataOf b = 8 + 8 * countOf b
+abbrev pub dataFrom : List ℕ → ℕ
+dataFrom b = 8 + 8 * countOf b
 
 abbrev pub absent : List ℕ → ℕ → Bool
-absent b i = pick (eqb (startOf b i) 0xFFFFFFFF) (eqb (lengthOf b i) 0) false
+absent b i = pick (eqb (slotStartOf b i) 0xFFFFFFFF) (eqb (slotLengthOf b i) 0) false
 
 -- slot i is good: absent where gaps are allowed, else a range within the data
 abbrev pub slotGood : Bool → List ℕ → ℕ → Bool
-slotGood gaps b i = pick (absent b i) gaps (leb (startOf b i + lengthOf b i) (sizeOf b))
+slotGood gaps b i = pick (absent b i) gaps (leb (slotStartOf b i + slotLengthOf b i) (dataSizeOf b))
 
 -- each of k slots from i on
 unfoldable pub slotsGood : Bool → List ℕ → ℕ → ℕ → Bool
@@ -47,7 +47,7 @@ unfoldable pub wellFormed : Bool → List ℕ → Bool
 wellFormed gaps b =
     pick (ltb (length b) 8) false
     (pick (ltb 64 (countOf b)) false
-    (pick (eqb (length b) (8 + 8 * countOf b + sizeOf b)) (slotsGood gaps b (countOf b) 0) false))
+    (pick (eqb (length b) (8 + 8 * countOf b + dataSizeOf b)) (slotsGood gaps b (countOf b) 0) false))
 
 -- the two checks, with 01's numbers
 abbrev pub imagesChecked : List ℕ → Checked
@@ -61,8 +61,8 @@ namesChecked b = pick (wellFormed false b) C.Good (C.Refused 2)
 unfoldable pub slotOf : List ℕ → ℕ → Slot
 slotOf b i =
     pick (ltb (length b) 8) S.Missing
-    (pick (ltb (length b) (dataOf b)) S.Missing
+    (pick (ltb (length b) (dataFrom b)) S.Missing
     (pick (leb (countOf b) i) S.Missing
     (pick (absent b i) S.Absent
-    (pick (ltb (length b) (dataOf b + startOf b i + lengthOf b i)) S.Missing
-    (S.At (dataOf b + startOf b i) (lengthOf b i))))))
+    (pick (ltb (length b) (dataFrom b + slotStartOf b i + slotLengthOf b i)) S.Missing
+    (S.At (dataFrom b + slotStartOf b i) (slotLengthOf b i))))))

@@ -10,9 +10,9 @@ ghost use Rattle.base.specs.Choice.{pick};
 ghost use Rattle.field.specs.Field.{le};
 ghost use Rattle.bundle.specs.Bundle.{
   countOf,
-  sizeOf,
-  startOf,
-  lengthOf,
+  dataSizeOf,
+  slotStartOf,
+  slotLengthOf,
   slotGood,
   slotsGood,
   wellFormed,
@@ -47,7 +47,7 @@ fn number(b: &[u8], at: usize) -> usize
 // The start of slot i of n.
 fn start_of(b: &[u8], n: usize, i: usize) -> usize
     requires { ⌜ (8 + 8 * n ≤ length (now b)) × (i < n) ⌝ }
-    ensures { λ r. ⌜ (r ≡ startOf (now (b .entry)) i) × (r < 4294967296) ⌝ }
+    ensures { λ r. ⌜ (r ≡ slotStartOf (now (b .entry)) i) × (r < 4294967296) ⌝ }
 {
     number(b, 8 + 4 * i)
 }
@@ -55,7 +55,7 @@ fn start_of(b: &[u8], n: usize, i: usize) -> usize
 // The length of slot i of n.
 fn length_of(b: &[u8], n: usize, i: usize) -> usize
     requires { ⌜ (n ≡ countOf (now b)) × (8 + 8 * n ≤ length (now b)) × (i < n) ⌝ }
-    ensures { λ r. ⌜ (r ≡ lengthOf (now (b .entry)) i) × (r < 4294967296) ⌝ }
+    ensures { λ r. ⌜ (r ≡ slotLengthOf (now (b .entry)) i) × (r < 4294967296) ⌝ }
 {
     number(b, 8 + 4 * n + 4 * i)
 }
@@ -72,7 +72,7 @@ fn is_absent(start: usize, size: usize) -> bool
 
 // One slot of n, in a bundle of data size d.
 fn slot_good(b: &[u8], gaps: bool, n: usize, d: usize, i: usize) -> bool
-    requires { ⌜ (n ≡ countOf (now b)) × (d ≡ sizeOf (now b)) × (8 + 8 * n ≤ length (now b)) × (i < n) ⌝ }
+    requires { ⌜ (n ≡ countOf (now b)) × (d ≡ dataSizeOf (now b)) × (8 + 8 * n ≤ length (now b)) × (i < n) ⌝ }
     ensures { λ r. ⌜ r ≡ slotGood gaps (now (b .entry)) i ⌝ }
 {
     let start = start_of(b, n, i);
@@ -85,7 +85,7 @@ fn slot_good(b: &[u8], gaps: bool, n: usize, d: usize, i: usize) -> bool
 
 // Every slot of n.
 fn slots_good(b: &[u8], gaps: bool, n: usize, d: usize) -> bool
-    requires { ⌜ (n ≡ countOf (now b)) × (d ≡ sizeOf (now b)) × (8 + 8 * n ≤ length (now b)) ⌝ }
+    requires { ⌜ (n ≡ countOf (now b)) × (d ≡ dataSizeOf (now b)) × (8 + 8 * n ≤ length (now b)) ⌝ }
     ensures { λ r. ⌜ r ≡ slotsGood gaps (now (b .entry)) n 0 ⌝ }
 {
     let mut i: usize = 0;

@@ -3,7 +3,7 @@ use verdict::Opening;
 use verdict::QdlBackend;
 ghost use mathlib.Core.Path.{_≡_};
 ghost use Rattle.verdict.specs.Opening.{chunkOf};
-ghost use Rattle.session.specs.Step.{dueAfter};
+ghost use Rattle.session.specs.RegionPhase.{dueAfter};
 
 // The most that one memory read asks for.
 pub fn chunk_size(opening: Opening) -> usize

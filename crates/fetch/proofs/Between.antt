@@ -12,14 +12,16 @@ use borrow.Author.Tests.{ltb-true, ltb-false, le-ltb, le-leb}
 use Rattle.base.proofs.Ranges.{by-test}
 use Rattle.entry.specs.Entry.{entrySize, entryOf, baseOf, lengthOf, filenameOf, there}
 use Rattle.entry.proofs.Laws.{entryOf-take}
-use Rattle.filename.specs.Filename.{openingCheck}
+use Rattle.filename.specs.Filename.{openCheck}
 use Rattle.filename.specs.declared.NameCheck.the-variants as N
-use Rattle.filename.proofs.Laws.{sound-opening, sound-opened}
+use Rattle.filename.proofs.Laws.{sound-open, sound-after-open}
 use Rattle.selection.specs.Selection.{selected, selectedAt, nextOf}
 use Rattle.verdict.specs.declared.Opening.{Opening}
 use Rattle.session.specs.declared.Phase.the-variants as P
 use Rattle.session.specs.declared.Answer.the-variants as A
-use Rattle.session.specs.Step.{Outcome, outcome, gives, inPhase, ended, region, betweenOf, readsLimit, phaseLimit}
+use Rattle.session.specs.Outcome.{Outcome, outcome, gives, inPhase, ended, region}
+use Rattle.session.specs.BetweenPhase.{betweenOf}
+use Rattle.session.specs.Limits.{readsLimit, phaseLimit}
 use Rattle.fetch.specs.Plain.{Report, opened, closed, finished, chunks, chunkCount, chosen, regions}
 use Rattle.fetch.specs.Device.{Setting}
 use Rattle.fetch.specs.Claim.{Dumpable, regionBytes, regionReads}
@@ -194,7 +196,7 @@ module _ (c : Setting) (a n k i : ℕ) (w : Ghost) (g : GoodBetween c a n k i w)
                 queue = rw (append-nil, no-bytes) (g .queue);
                 entry = h;
                 reads = rw (sub-zero (lengthOf 8 e)) (omega (arith, m, g .reads, here h .later));
-                named = rw (entry-same 8 (w .table) t n (g .table) room-for found h) (sound-opened (filenameOf 8 e) (y .named));
+                named = rw (entry-same 8 (w .table) t n (g .table) room-for found h) (sound-after-open (filenameOf 8 e) (y .named));
                 within = omega arith;
                 top = y .top;
                 cut = λ p. refl;
@@ -219,6 +221,6 @@ module _ (c : Setting) (a n k i : ℕ) (w : Ghost) (g : GoodBetween c a n k i w)
         (λ m.
         let h : found < n / entrySize 8 = ltb-true _ _ m in
         let f : entryOf 8 (w .table) found ≡ e = entry-same 8 (w .table) t n (g .table) room-for found h in
-        let y : openingCheck (filenameOf 8 e) ≡ N.Good = sound-opening (filenameOf 8 e) (safe found h (here h .chose) .named) in
+        let y : openCheck (filenameOf 8 e) ≡ N.Good = sound-open (filenameOf 8 e) (safe found h (here h .chose) .named) in
         via c a n (rw (g .declared, m, f, y) refl) (enter h))
         (λ m. via c a n (rw (g .declared, m) refl) (finish (ltb-false _ _ m)))

@@ -11,7 +11,7 @@ use lib.ListN.{length, take, drop}
 use borrow.Author.Tests.{not-false}
 use Rattle.bundle.specs.Bundle.{wellFormed}
 use Rattle.entry.specs.Entry.{entryOf, filenameOf}
-use Rattle.filename.specs.Filename.{openingCheck, openedCheck}
+use Rattle.filename.specs.Filename.{openCheck, afterOpenCheck}
 use Rattle.filename.specs.declared.NameCheck.{NameCheck}
 use Rattle.filename.specs.declared.NameCheck.the-variants as N
 use Rattle.selection.specs.Selection.{nextOf}
@@ -30,31 +30,13 @@ use Rattle.session.specs.declared.Phase.the-variants as P
 use Rattle.session.specs.declared.Session.{Session}
 use Rattle.session.specs.declared.Answer.{Answer}
 use Rattle.session.specs.declared.Answer.the-variants as A
-use Rattle.session.specs.Step.{
-  Outcome,
-  outcome,
-  gives,
-  keep,
-  acted,
-  wholeOf,
-  bodyOf,
-  packetOf,
-  responseOf,
-  switchedOf,
-  tableOf,
-  entriesIn,
-  openingOf,
-  betweenOf,
-  nextChunk,
-  begunOf,
-  askOf,
-  handOf,
-  regionOf,
-  limitOf,
-  onPhase,
-  isEnded,
-  stepOf,
-}
+use Rattle.session.specs.Outcome.{Outcome, outcome, gives, isEnded}
+use Rattle.session.specs.PacketPhase.{keep, acted, wholeOf, sizedOf, packetOf}
+use Rattle.session.specs.FillingPhase.{responseOf, switchedOf, tableOf}
+use Rattle.session.specs.BetweenPhase.{entriesIn, openOf, betweenOf}
+use Rattle.session.specs.RegionPhase.{nextChunk, begunOf, askOf, handOf, regionOf}
+use Rattle.session.specs.Limits.{limitOf}
+use Rattle.session.specs.Step.{onPhase, stepOf}
 use Rattle.steps.specs.Steps.{one, final}
 use Rattle.fetch.specs.Plain.{Report, sent, image, opened, byte, emptyRead, closed, finished}
 use Rattle.fetch.specs.Device.{Setting, World, Turn, own, other, toldBy, next, reported, start}
@@ -201,7 +183,7 @@ module _ (s : Session) (d set : List ℕ) where
     acted-counts n w (W.Refused why) h = silent _ n (A.Refused why) t y o refl tt refl
 
     packet-counts : (h : ℕ) → Counts (packetOf s h d set t y o)
-    unfolding packetOf bodyOf wholeOf
+    unfolding packetOf sizedOf wholeOf
     packet-counts h =
         let w : List ℕ = keep (s .window) h d in
         let n : ℕ = min (lengthField w - h) (length d) in
@@ -234,7 +216,7 @@ module _ (s : Session) (d set : List ℕ) where
         split Counts (ltb (x .filled + min (x .declared - x .filled) (length d)) (x .declared)) (λ e. silent _ _ A.Go _ y o refl tt refl)
         (λ e. silent _ _ A.Go _ y o refl tt refl)
 
-    opening-counts : (k i : ℕ) (e : List ℕ) (v : NameCheck) → Counts (outcome (openingOf 8 s k i e v) t y o)
+    opening-counts : (k i : ℕ) (e : List ℕ) (v : NameCheck) → Counts (outcome (openOf 8 s k i e v) t y o)
     opening-counts k i e N.Good = single (opened i) _ 0 (A.Open i) t y o refl tt refl refl refl tt
     opening-counts k i e (N.Refused why) = silent _ 0 (A.Refused why) t y o refl tt refl
 
@@ -243,7 +225,7 @@ module _ (s : Session) (d set : List ℕ) where
     between-counts k from =
         let i : ℕ = nextOf 8 names t (entriesIn 8 k - from) from in
         split (λ v. Counts (outcome v t y o)) (ltb i (entriesIn 8 k))
-        (λ e. opening-counts k i (entryOf 8 t i) (openingCheck (filenameOf 8 (entryOf 8 t i))))
+        (λ e. opening-counts k i (entryOf 8 t i) (openCheck (filenameOf 8 (entryOf 8 t i))))
         (λ e. ends-here 3 _ 0 t y o refl refl tt)
 
     module _ (k : ℕ) (x : Region) where
@@ -261,7 +243,7 @@ module _ (s : Session) (d set : List ℕ) where
       ask-counts : Counts (askOf 8 s k x t y o)
       unfolding askOf
       ask-counts =
-          split Counts (eqb (x .done) 0) (λ e. begun-counts (openedCheck (filenameOf 8 (entryOf 8 t (x .entry))))) (λ e. next-counts)
+          split Counts (eqb (x .done) 0) (λ e. begun-counts (afterOpenCheck (filenameOf 8 (entryOf 8 t (x .entry))))) (λ e. next-counts)
 
       hand-counts : Counts (handOf s k x d t y o)
       unfolding handOf

@@ -15,7 +15,7 @@ use Rattle.utf8.specs.Utf8.{table, leads, afterFirst, goesOn}
 use Rattle.bundle.specs.Bundle.{slotsGood, wellFormed, slotOf}
 use Rattle.image.specs.Image.{rangeOf}
 use Rattle.entry.specs.Entry.{entryOf}
-use Rattle.filename.specs.Filename.{before, has, stemOf, openingCheck, openedCheck, sound}
+use Rattle.filename.specs.Filename.{before, has, stemOf, openCheck, afterOpenCheck, sound}
 use Rattle.selection.specs.Selection.{low, namesFrom, same, member, selected, nextOf}
 use Rattle.command.specs.Command.{modeOf, kinds, classOf}
 use Rattle.command.specs.declared.SaharaMode.the-variants as M
@@ -28,19 +28,12 @@ use Rattle.verdict.specs.declared.QdlBackend.{QdlBackend}
 use Rattle.verdict.specs.declared.QdlBackend.the-variants as U
 use Rattle.verdict.specs.declared.ExecCommand.the-variants as X
 use Rattle.verdict.specs.declared.Opening.{Opening}
-use Rattle.session.specs.Step.{
-  wholeOf,
-  bodyOf,
-  packetOf,
-  tableOf,
-  betweenOf,
-  nextChunk,
-  askOf,
-  handOf,
-  regionOf,
-  limitOf,
-  stepOf,
-}
+use Rattle.session.specs.PacketPhase.{wholeOf, sizedOf, packetOf}
+use Rattle.session.specs.FillingPhase.{tableOf}
+use Rattle.session.specs.BetweenPhase.{betweenOf}
+use Rattle.session.specs.RegionPhase.{nextChunk, askOf, handOf, regionOf}
+use Rattle.session.specs.Limits.{limitOf}
+use Rattle.session.specs.Step.{stepOf}
 use Rattle.fetch.specs.Plain.{
   Report,
   sent,
@@ -235,7 +228,7 @@ play-fair c (m ∷ ms) w h =
     (move-fair c w m (both-left (lawful c w m) (allLawful c ms v) h), play-fair c ms v (both-right (lawful c w m) (allLawful c ms v) h))
 
 each : (b : QdlBackend) → T (allLawful device moves (begun b))
-unfolding allLawful stepOf limitOf packetOf bodyOf wholeOf tableOf betweenOf nextChunk askOf handOf regionOf chunkOf openingCheck openedCheck
+unfolding allLawful stepOf limitOf packetOf sizedOf wholeOf tableOf betweenOf nextChunk askOf handOf regionOf chunkOf openCheck afterOpenCheck
     nextOf served wellFormed slotsGood slotOf rangeOf verdictOf decodeOf classOf kinds kindOf modeOf bytesOf selected stemOf before low namesFrom
     same member has goesOn leads afterFirst table bytesAt fields le leBytes
 each U.Serial = tt
@@ -263,7 +256,7 @@ told b =
 
 -- by the list of steps
 played : (b : QdlBackend) → reports device (begun b) (play device moves (begun b)) ≡ told b
-unfolding play stepOf limitOf packetOf bodyOf wholeOf tableOf betweenOf nextChunk askOf handOf regionOf chunkOf openingCheck openedCheck
+unfolding play stepOf limitOf packetOf sizedOf wholeOf tableOf betweenOf nextChunk askOf handOf regionOf chunkOf openCheck afterOpenCheck
     nextOf served wellFormed slotsGood slotOf rangeOf verdictOf decodeOf classOf kinds kindOf modeOf bytesOf selected stemOf before low namesFrom
     same member has goesOn leads afterFirst table bytesAt fields le leBytes
 played U.Serial = refl

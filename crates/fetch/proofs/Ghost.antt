@@ -9,7 +9,8 @@ use Rattle.base.specs.Choice.{pick}
 use Rattle.session.specs.declared.Phase.{Phase}
 use Rattle.session.specs.declared.Phase.the-variants as P
 use Rattle.session.specs.declared.Session.{Session}
-use Rattle.session.specs.Step.{Outcome, stepOf}
+use Rattle.session.specs.Outcome.{Outcome}
+use Rattle.session.specs.Step.{stepOf}
 use Rattle.fetch.specs.Device.{Setting, World, Turn, own, other, queued, stepOwn, next}
 
 pub record Ghost : Type 0 where

@@ -7,7 +7,7 @@ use Prim.Native.Nat.{ℕ, suc, _+_, _-_, _*_, _/_, _%_, _^_, _≤_, _<_}
 use lib.Dec.{eqb}
 use lib.ListN.{length, take, drop}
 use Rattle.entry.specs.Entry.{entrySize, entryOf, filenameOf}
-use Rattle.filename.specs.Filename.{openedCheck}
+use Rattle.filename.specs.Filename.{afterOpenCheck}
 use Rattle.filename.specs.declared.NameCheck.the-variants as N
 use Rattle.packet.specs.Packet.{lengthField}
 use Rattle.verdict.specs.Opening.{onUsb}
@@ -17,7 +17,7 @@ use Rattle.session.specs.declared.Filling.{Filling}
 use Rattle.session.specs.declared.Region.{Region}
 use Rattle.session.specs.declared.Phase.{Phase}
 use Rattle.session.specs.declared.Phase.the-variants as P
-use Rattle.session.specs.Step.{Outcome}
+use Rattle.session.specs.Outcome.{Outcome}
 use Rattle.steps.specs.Steps.{one}
 use Rattle.fetch.specs.Plain.{Report, byte, closed, bytesAt, hear, Debugged, emptyIf, chunks, chunkCount, chosen, regions, reportsOf}
 use Rattle.fetch.specs.Device.{Setting, toldBy}
@@ -123,7 +123,7 @@ module _ (c : Setting) (a n : ℕ) where
     pub queue : w .queue ≡ bytesAt (c .mem) (x .base + x .done) (x .outstanding)
     pub entry : x .entry < n / entrySize 8
     pub reads : w .session .reads + chunkCount (w .session .opening) (unasked x) ≤ 1 + suc (x .entry) * 2 ^ 53
-    pub named : openedCheck (filenameOf 8 (entryOf 8 (w .table) (x .entry))) ≡ N.Good
+    pub named : afterOpenCheck (filenameOf 8 (entryOf 8 (w .table) (x .entry))) ≡ N.Good
     pub within : x .done + x .outstanding ≤ x .len
     pub top : x .base + x .len ≤ 256 ^ 8
     pub cut : x .done + x .outstanding < x .len → (x .done + x .outstanding) % 512 ≡ 0

@@ -23,7 +23,9 @@ use Rattle.verdict.specs.declared.Verdict.{Verdict}
 use Rattle.verdict.specs.declared.Verdict.the-variants as W
 use Rattle.session.specs.declared.Phase.the-variants as P
 use Rattle.session.specs.declared.Answer.the-variants as A
-use Rattle.session.specs.Step.{Outcome, outcome, gives, holding, reading, filling, keep, wholeOf, bodyOf, packetOf, readsLimit, phaseLimit}
+use Rattle.session.specs.Outcome.{Outcome, outcome, gives, holding, reading, filling}
+use Rattle.session.specs.PacketPhase.{keep, wholeOf, sizedOf, packetOf}
+use Rattle.session.specs.Limits.{readsLimit, phaseLimit}
 use Rattle.fetch.specs.Plain.{
   Report,
   sent,
@@ -341,8 +343,8 @@ module _ (c : Setting) (a n h : ℕ) (w : Ghost) (g : GoodPacket c a n h w) wher
     some-came = v .some (omega (arith, s-length, first .whole, short))
 
     module _ (good : wellFormed true (c .set) ≡ true) (top : a + n ≤ 2 ^ 64) where
-      body : Keeps (bodyOf (w .session) h d size (c .set) (w .table) (w .reply) (w .out))
-      unfolding bodyOf
+      body : Keeps (sizedOf (w .session) h d size (c .set) (w .table) (w .reply) (w .out))
+      unfolding sizedOf
       body =
           let b : badLength size ≡ false = first .good in
           by-test (ltb (h + min k (length d)) size)

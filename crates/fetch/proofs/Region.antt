@@ -19,22 +19,9 @@ use Rattle.verdict.specs.declared.Opening.{Opening}
 use Rattle.session.specs.declared.Region.{Region}
 use Rattle.session.specs.declared.Phase.the-variants as P
 use Rattle.session.specs.declared.Answer.the-variants as A
-use Rattle.session.specs.Step.{
-  Outcome,
-  outcome,
-  gives,
-  inPhase,
-  reading,
-  region,
-  emptied,
-  dueAfter,
-  nextChunk,
-  askOf,
-  handOf,
-  regionOf,
-  readsLimit,
-  phaseLimit,
-}
+use Rattle.session.specs.Outcome.{Outcome, outcome, gives, inPhase, reading, region}
+use Rattle.session.specs.RegionPhase.{emptied, dueAfter, nextChunk, askOf, handOf, regionOf}
+use Rattle.session.specs.Limits.{readsLimit, phaseLimit}
 use Rattle.steps.specs.Steps.{one}
 use Rattle.fetch.specs.Plain.{Report, byte, sent, emptyRead, bytesAt, chunk, chunks, chunkCount}
 use Rattle.fetch.specs.Device.{Setting, Delivered}

@@ -10,7 +10,7 @@ use borrow.Author.Tests.{not-false}
 use Rattle.bundle.specs.Bundle.{wellFormed}
 use Rattle.entry.specs.Entry.{entryOf, filenameOf}
 use Rattle.utf8.specs.Utf8.{utf8}
-use Rattle.filename.specs.Filename.{before, has, openingCheck, openedCheck}
+use Rattle.filename.specs.Filename.{before, has, openCheck, afterOpenCheck}
 use Rattle.filename.specs.declared.NameCheck.{NameCheck}
 use Rattle.filename.specs.declared.NameCheck.the-variants as N
 use Rattle.selection.specs.Selection.{nextOf}
@@ -23,30 +23,13 @@ use Rattle.session.specs.declared.Region.{Region}
 use Rattle.session.specs.declared.Phase.{Phase}
 use Rattle.session.specs.declared.Phase.the-variants as P
 use Rattle.session.specs.declared.Session.{Session}
-use Rattle.session.specs.Step.{
-  Outcome,
-  outcome,
-  keep,
-  acted,
-  wholeOf,
-  bodyOf,
-  packetOf,
-  responseOf,
-  switchedOf,
-  tableOf,
-  entriesIn,
-  openingOf,
-  betweenOf,
-  nextChunk,
-  begunOf,
-  askOf,
-  handOf,
-  regionOf,
-  limitOf,
-  onPhase,
-  isEnded,
-  stepOf,
-}
+use Rattle.session.specs.Outcome.{Outcome, outcome, isEnded}
+use Rattle.session.specs.PacketPhase.{keep, acted, wholeOf, sizedOf, packetOf}
+use Rattle.session.specs.FillingPhase.{responseOf, switchedOf, tableOf}
+use Rattle.session.specs.BetweenPhase.{entriesIn, openOf, betweenOf}
+use Rattle.session.specs.RegionPhase.{nextChunk, begunOf, askOf, handOf, regionOf}
+use Rattle.session.specs.Limits.{limitOf}
+use Rattle.session.specs.Step.{onPhase, stepOf}
 use Rattle.fetch.specs.Device.{aside, toldBy}
 use Rattle.fetch.proofs.Basics.{split}
 use Rattle.fetch.proofs.Verdict.{Ends, Sane, sane}
@@ -61,13 +44,13 @@ abbrev NameSane : NameCheck → Type 0
 NameSane N.Good = Unit
 NameSane (N.Refused why) = Ends why
 
-opening-sane : (name : List ℕ) → NameSane (openingCheck name)
-unfolding openingCheck
+opening-sane : (name : List ℕ) → NameSane (openCheck name)
+unfolding openCheck
 opening-sane name =
     split NameSane (has 0 name) (λ e. split NameSane (utf8 (before 0 name)) (λ m. tt) (λ m. refl)) (λ e. refl)
 
-opened-sane : (name : List ℕ) → NameSane (openedCheck name)
-unfolding openedCheck
+opened-sane : (name : List ℕ) → NameSane (afterOpenCheck name)
+unfolding afterOpenCheck
 opened-sane name = split NameSane (utf8 name) (λ e. tt) (λ e. refl)
 
 module _ (s : Session) (d set names t y o : List ℕ) where
@@ -83,7 +66,7 @@ module _ (s : Session) (d set names t y o : List ℕ) where
   acted-quiet n w (W.Refused why) e = rw e (λ h. h)
 
   pub packet-quiet : wellFormed true set ≡ true → (h : ℕ) → Quiet (packetOf s h d set t y o)
-  unfolding packetOf bodyOf wholeOf
+  unfolding packetOf sizedOf wholeOf
   packet-quiet g h =
       let size : ℕ = lengthField (keep (s .window) h d) in
       let n : ℕ = min (size - h) (length d) in
@@ -110,7 +93,7 @@ module _ (s : Session) (d set names t y o : List ℕ) where
   unfolding tableOf
   table-quiet x = split Quiet (ltb (x .filled + min (x .declared - x .filled) (length d)) (x .declared)) (λ e h. h) (λ e h. h)
 
-  opening-quiet : (k i : ℕ) (e : List ℕ) (c : NameCheck) → NameSane c → Quiet (outcome (openingOf 8 s k i e c) t y o)
+  opening-quiet : (k i : ℕ) (e : List ℕ) (c : NameCheck) → NameSane c → Quiet (outcome (openOf 8 s k i e c) t y o)
   opening-quiet k i e N.Good m = λ h. h
   opening-quiet k i e (N.Refused why) m = rw m (λ h. h)
 
@@ -120,7 +103,7 @@ module _ (s : Session) (d set names t y o : List ℕ) where
       let i : ℕ = nextOf 8 names t (entriesIn 8 k - from) from in
       let e : List ℕ = entryOf 8 t i in
       split (λ r. Quiet (outcome r t y o)) (ltb i (entriesIn 8 k))
-      (λ m. opening-quiet k i e (openingCheck (filenameOf 8 e)) (opening-sane (filenameOf 8 e))) (λ m h. h)
+      (λ m. opening-quiet k i e (openCheck (filenameOf 8 e)) (opening-sane (filenameOf 8 e))) (λ m h. h)
 
   next-quiet : (k : ℕ) (x : Region) → Quiet (nextChunk s k x t y o)
   unfolding nextChunk
@@ -134,7 +117,7 @@ module _ (s : Session) (d set names t y o : List ℕ) where
   unfolding askOf
   ask-quiet k x =
       let name : List ℕ = filenameOf 8 (entryOf 8 t (x .entry)) in
-      split Quiet (eqb (x .done) 0) (λ e. begun-quiet k x (openedCheck name) (opened-sane name)) (λ e. next-quiet k x)
+      split Quiet (eqb (x .done) 0) (λ e. begun-quiet k x (afterOpenCheck name) (opened-sane name)) (λ e. next-quiet k x)
 
   hand-quiet : (k : ℕ) (x : Region) → Quiet (handOf s k x d t y o)
   unfolding handOf

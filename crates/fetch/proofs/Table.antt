@@ -13,7 +13,9 @@ use Rattle.verdict.specs.Verdict.{room}
 use Rattle.session.specs.declared.Filling.{Filling}
 use Rattle.session.specs.declared.Phase.the-variants as P
 use Rattle.session.specs.declared.Answer.the-variants as A
-use Rattle.session.specs.Step.{Outcome, outcome, gives, inPhase, filling, tableOf, readsLimit, phaseLimit}
+use Rattle.session.specs.Outcome.{Outcome, outcome, gives, inPhase, filling}
+use Rattle.session.specs.FillingPhase.{tableOf}
+use Rattle.session.specs.Limits.{readsLimit, phaseLimit}
 use Rattle.fetch.specs.Device.{Setting, Delivered}
 use Rattle.fetch.proofs.Ghost.{Ghost}
 use Rattle.fetch.proofs.Device.{length-bytesAt, first-of}

@@ -16,7 +16,9 @@ use Rattle.bundle.specs.Bundle.{wellFormed}
 use Rattle.verdict.specs.declared.Opening.{Opening}
 use Rattle.session.specs.declared.Phase.{Phase}
 use Rattle.session.specs.declared.Phase.the-variants as P
-use Rattle.session.specs.Step.{Outcome, openedWith, readsLimit, phaseLimit, limitOf, onPhase, isEnded, untouched, stepOf}
+use Rattle.session.specs.Outcome.{Outcome, openedWith, isEnded, untouched}
+use Rattle.session.specs.Limits.{readsLimit, phaseLimit, limitOf}
+use Rattle.session.specs.Step.{onPhase, stepOf}
 use Rattle.steps.specs.Steps.{one, FairRun, final, outs, counted}
 use Rattle.steps.proofs.Steps.{beginning, whole, outs-seen, counted-seen, fair-seen}
 use Rattle.fetch.specs.Plain.{Report, Debugged, hear, hosted, plain}

@@ -15,7 +15,8 @@ use Rattle.verdict.specs.declared.Opening.{Opening}
 use Rattle.session.specs.declared.Session.{Session}
 use Rattle.session.specs.declared.Answer.{Answer}
 use Rattle.session.specs.declared.Answer.the-variants as A
-use Rattle.session.specs.Step.{Outcome, stepOf, openedWith}
+use Rattle.session.specs.Outcome.{Outcome, openedWith}
+use Rattle.session.specs.Step.{stepOf}
 use Rattle.fetch.specs.Plain.{Report, sent, image, opened, byte, emptyRead, closed, finished, bytesAt}
 
 -- what stays the same in a run: the device's memory, and the run's own image set and names

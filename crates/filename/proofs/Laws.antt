@@ -11,7 +11,7 @@ use borrow.Author.Tests.{eq-eqb, ne-eqb, lt-ltb, le-ltb, eqb-true, ltb-true}
 use Rattle.base.specs.Choice.{pick}
 use Rattle.utf8.specs.Utf8.{utf8}
 use Rattle.utf8.proofs.Laws.{cut}
-use Rattle.filename.specs.Filename.{before, has, stemOf, openingCheck, openedCheck, sound}
+use Rattle.filename.specs.Filename.{before, has, stemOf, openCheck, afterOpenCheck, sound}
 use Rattle.filename.specs.declared.NameCheck.the-variants as N
 
 -- the bytes before the first b are a beginning
@@ -93,14 +93,14 @@ length-stem name = by (utf8 name) where
   by false = omega arith
 
 -- opening refuses a name without zero byte with 19
-pub opening-none : (name : List ℕ) → length name ≤ length (before 0 name) → openingCheck name ≡ N.Refused 19
-unfolding openingCheck
+pub opening-none : (name : List ℕ) → length name ≤ length (before 0 name) → openCheck name ≡ N.Refused 19
+unfolding openCheck
 opening-none name h = rw (has-none 0 name h)
 
 -- and goes by the k bytes before the first zero where there is one
 pub opening-one : (name : List ℕ) (k : ℕ) (t : Bool) → k ≡ length (before 0 name) → k < length name → t ≡ utf8 (take k name)
-    → openingCheck name ≡ pick t N.Good (N.Refused 20)
-unfolding openingCheck
+    → openCheck name ≡ pick t N.Good (N.Refused 20)
+unfolding openCheck
 opening-one name k t e l u =
     let h : has 0 name ≡ true = has-one 0 name (omega arith) in
     let v : utf8 (before 0 name) ≡ t = ap utf8 (sym (take-before 0 name k e)) ∙ sym u in
@@ -123,14 +123,14 @@ utf8-before b s l h u =
     rw (before-take b s) (cut s (length (before b s)) k (rw (at-before b s k) l) u)
 
 -- opening a region does not refuse a sound name
-pub sound-opening : (name : List ℕ) → sound name ≡ true → openingCheck name ≡ N.Good
-unfolding sound openingCheck
-sound-opening name e =
+pub sound-open : (name : List ℕ) → sound name ≡ true → openCheck name ≡ N.Good
+unfolding sound openCheck
+sound-open name e =
     let u : utf8 name ≡ true = sound-utf8 (utf8 name) (has 0 name) e in
     let h : has 0 name ≡ true = sound-has (utf8 name) (has 0 name) e in
     rw (h, utf8-before 0 name (lit< tt) h u)
 
 -- nor does the step after open
-pub sound-opened : (name : List ℕ) → sound name ≡ true → openedCheck name ≡ N.Good
-unfolding sound openedCheck
-sound-opened name e = rw (sound-utf8 (utf8 name) (has 0 name) e)
+pub sound-after-open : (name : List ℕ) → sound name ≡ true → afterOpenCheck name ≡ N.Good
+unfolding sound afterOpenCheck
+sound-after-open name e = rw (sound-utf8 (utf8 name) (has 0 name) e)

@@ -25,12 +25,12 @@ unfoldable pub stemOf : List ℕ → List ℕ
 stemOf name = pick (utf8 name) (before 0x2E name) []
 
 -- what opening a region says of its name
-unfoldable pub openingCheck : List ℕ → NameCheck
-openingCheck name = pick (has 0 name) (pick (utf8 (before 0 name)) N.Good (N.Refused 20)) (N.Refused 19)
+unfoldable pub openCheck : List ℕ → NameCheck
+openCheck name = pick (has 0 name) (pick (utf8 (before 0 name)) N.Good (N.Refused 20)) (N.Refused 19)
 
 -- what the step after open says of it
-unfoldable pub openedCheck : List ℕ → NameCheck
-openedCheck name = pick (utf8 name) N.Good (N.Refused 21)
+unfoldable pub afterOpenCheck : List ℕ → NameCheck
+afterOpenCheck name = pick (utf8 name) N.Good (N.Refused 21)
 
 -- a sound name
 unfoldable pub sound : List ℕ → Bool

@@ -1,7 +1,7 @@
 // Filenames of table entries: the stem, and the tests of a region's name.
 ghost use mathlib.Core.Path.{_≡_};
 ghost use lib.ListN.{length};
-ghost use Rattle.filename.specs.Filename.{before, stemOf, openingCheck, openedCheck};
+ghost use Rattle.filename.specs.Filename.{before, stemOf, openCheck, afterOpenCheck};
 
 pub enum NameCheck {
     Good,
@@ -33,8 +33,8 @@ pub fn stem_len(name: &[u8]) -> usize
 }
 
 // What opening a region says of its name.
-pub fn check_opening(name: &[u8]) -> NameCheck
-    ensures { λ r. ⌜ r ≡ openingCheck (now (name .entry)) ⌝ }
+pub fn check_open(name: &[u8]) -> NameCheck
+    ensures { λ r. ⌜ r ≡ openCheck (now (name .entry)) ⌝ }
 {
     let n = name.len();
     let k = find(name, 0);
@@ -48,8 +48,8 @@ pub fn check_opening(name: &[u8]) -> NameCheck
 }
 
 // What the step after open says of it.
-pub fn check_opened(name: &[u8]) -> NameCheck
-    ensures { λ r. ⌜ r ≡ openedCheck (now (name .entry)) ⌝ }
+pub fn check_after_open(name: &[u8]) -> NameCheck
+    ensures { λ r. ⌜ r ≡ afterOpenCheck (now (name .entry)) ⌝ }
 {
     if utf8::valid(name) {
         return NameCheck::Good;

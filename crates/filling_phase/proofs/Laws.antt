@@ -6,7 +6,7 @@ use Prim.Native.Nat.{ℕ, _≤_}
 use borrow.Author.Tests.{ltb-false}
 use lib.Dec.{ltb}
 use lib.ListN.{length}
-use Rattle.session.specs.Step.{fillingLimit}
+use Rattle.session.specs.Limits.{fillingLimit}
 use Rattle.session.specs.declared.Filling.{Filling}
 use Rattle.session.specs.declared.Session.{Session}
 use Rattle.turn.specs.Turn.{refusalOf}

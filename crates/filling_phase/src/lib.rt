@@ -16,7 +16,7 @@ ghost use mathlib.Core.Path.{_≡_};
 ghost use Prim.Native.Nat.{_-_, _≤_, min};
 ghost use lib.ListN.{length};
 ghost use lib.Seq.{paste};
-ghost use Rattle.session.specs.Step.{outcome};
+ghost use Rattle.session.specs.Outcome.{outcome};
 ghost use Rattle.session.specs.Guard.{responseStep, switchedStep, tableStep};
 
 // Fills in what the delivery has of the bytes that are missing: how many.

@@ -13,7 +13,9 @@ use Rattle.session.specs.declared.Phase.the-variants as P
 use Rattle.session.specs.declared.Region.{Region}
 use Rattle.session.specs.declared.Session.{Session}
 use Rattle.session.specs.declared.Answer.the-variants as A
-use Rattle.session.specs.Step.{ended, gives, readsLimit, phaseLimit, limitOf, onPhase, isEnded, untouched, stepOf, closedOf}
+use Rattle.session.specs.Outcome.{ended, gives, isEnded, untouched}
+use Rattle.session.specs.Limits.{readsLimit, phaseLimit, limitOf}
+use Rattle.session.specs.Step.{onPhase, stepOf, closedOf}
 use Rattle.host.specs.Host.{phaseStep, regionWaits}
 use Rattle.session.specs.Guard.{packetStep, responseStep, switchedStep, tableStep, betweenStep, regionStep}
 

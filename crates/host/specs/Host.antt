@@ -15,7 +15,7 @@ use Rattle.session.specs.declared.Region.{Region}
 use Rattle.session.specs.declared.Phase.{Phase}
 use Rattle.session.specs.declared.Phase.the-variants as P
 use Rattle.session.specs.declared.Session.{Session}
-use Rattle.session.specs.Step.{Outcome, untouched}
+use Rattle.session.specs.Outcome.{Outcome, untouched}
 use Rattle.session.specs.Guard.{packetStep, responseStep, switchedStep, tableStep, betweenStep, regionStep}
 
 abbrev pub opening : SaharaMode → ExecCommand → QdlBackend → Opening

@@ -22,7 +22,8 @@ use verdict::Opening;
 use verdict::QdlBackend;
 ghost use mathlib.Core.Path.{_≡_};
 ghost use Prim.Native.Nat.{_-_};
-ghost use Rattle.session.specs.Step.{openedWith, outcome, stepOf, isEnded, closedOf};
+ghost use Rattle.session.specs.Outcome.{openedWith, outcome, isEnded};
+ghost use Rattle.session.specs.Step.{stepOf, closedOf};
 ghost use Rattle.host.specs.Host.{opening, phaseStep, regionWaits, needsBytes, packetWants, regionWants, wantedOf};
 
 // A session, opened with a mode, a command or none, and a backend.

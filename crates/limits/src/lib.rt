@@ -10,7 +10,8 @@ ghost use Prim.Native.Nat.{_+_, _^_};
 ghost use lib.Dec.{ltb};
 ghost use lib.ListN.{length};
 ghost use Rattle.packet.specs.Packet.{lengthField};
-ghost use Rattle.session.specs.Step.{entriesIn, heldLimit, fillingLimit, regionLimit};
+ghost use Rattle.session.specs.BetweenPhase.{entriesIn};
+ghost use Rattle.session.specs.Limits.{heldLimit, fillingLimit, regionLimit};
 
 // Memory reads above 2^63 + 1.
 pub fn reads_limit(reads: u64) -> bool

@@ -9,7 +9,7 @@ use lib.Seq.{paste, length-paste, take-all, take-length, take-at, take-append-ad
 use Rattle.base.proofs.Ranges.{below-or-not}
 use Rattle.copy.specs.Copy.{copied}
 use Rattle.copy.proofs.Laws.{copied-fits, copied-beyond}
-use Rattle.session.specs.Step.{keep}
+use Rattle.session.specs.PacketPhase.{keep}
 
 module _ (w : List ℕ) (full : length w ≡ 48) where
   -- a packet's first bytes in the window are those of its first 48

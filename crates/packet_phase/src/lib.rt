@@ -23,7 +23,8 @@ ghost use mathlib.Core.List.{List};
 ghost use Prim.Native.Nat.{ℕ, _-_, _≤_};
 ghost use lib.ListN.{length};
 ghost use Rattle.build.specs.Build.{sizeOf, front};
-ghost use Rattle.session.specs.Step.{outcome, gives, keep, reading, holding, acted, wholeOf, bodyOf, packetOf};
+ghost use Rattle.session.specs.Outcome.{outcome, gives, reading, holding};
+ghost use Rattle.session.specs.PacketPhase.{keep, acted, wholeOf, sizedOf, packetOf};
 ghost use Rattle.session.specs.Guard.{packetStep};
 
 // What is left of a after b, or 0.
@@ -157,7 +158,7 @@ fn body(
 ) -> Stepped
     requires { ⌜ 48 ≤ length (now out) ⌝ }
     ensures { λ r. ⌜ outcome r (now (table .entry)) (now (reply .entry)) (now (out .exit))
-        ≡ bodyOf s held (now (delivery .entry)) size (now (set .entry)) (now (table .entry)) (now (reply .entry)) (now (out .entry)) ⌝ }
+        ≡ sizedOf s held (now (delivery .entry)) size (now (set .entry)) (now (table .entry)) (now (reply .entry)) (now (out .entry)) ⌝ }
 {
     let LengthCheck::Good = sahara_read_packet_length(size) else {
         return moved(s, Phase::Ended(0), rest(8, held), Answer::Refused(5));

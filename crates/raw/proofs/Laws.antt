@@ -20,7 +20,7 @@ use Rattle.session.specs.declared.Phase.{Phase}
 use Rattle.session.specs.declared.Phase.the-variants as P
 use Rattle.session.specs.declared.Session.{Session}
 use Rattle.session.specs.declared.Answer.the-variants as A
-use Rattle.session.specs.Step.{gives}
+use Rattle.session.specs.Outcome.{gives}
 use Rattle.raw.specs.Raw.{
   backendNumber,
   execNumber,
@@ -143,8 +143,8 @@ bit-kept : (n : ℕ) → ltb n 2 ≡ true → pick (eqb n 1) 1 0 ≡ n
 bit-kept n h = by-test (eqb n 1) (λ e. rw (eqb-true n 1 e) refl) (λ e. rw (below-two n h e) refl)
 
 -- the numbers of r that tell its phase
-abbrev told : RawSession → Counts
-told r =
+abbrev countsIn : RawSession → Counts
+countsIn r =
     record {
       phase = r .phase;
       count = r .count;
@@ -156,7 +156,7 @@ told r =
       due = r .due;
     }
 
-region-zero : (r : RawSession) (n : ℕ) → r .phase ≡ n → noRegion r ≡ true → counts n (r .count) (r .at) ≡ told r
+region-zero : (r : RawSession) (n : ℕ) → r .phase ≡ n → noRegion r ≡ true → counts n (r .count) (r .at) ≡ countsIn r
 region-zero r n p h =
     let b = both (eqb (r .base) 0) _ h in
     let l = both (eqb (r .len) 0) _ (b .1) in
@@ -164,12 +164,12 @@ region-zero r n p h =
     let o = both (eqb (r .outstanding) 0) _ (d .1) in
     rw (p, eqb-true (r .base) 0 (b .0), eqb-true (r .len) 0 (l .0), eqb-true (r .done) 0 (d .0), eqb-true (r .outstanding) 0 (o .0), eqb-true (r .due) 0 (o .1)) refl
 
-place-zero : (r : RawSession) (n : ℕ) → r .phase ≡ n → noPlace r ≡ true → counts n (r .count) 0 ≡ told r
+place-zero : (r : RawSession) (n : ℕ) → r .phase ≡ n → noPlace r ≡ true → counts n (r .count) 0 ≡ countsIn r
 place-zero r n p h =
     let a = both (eqb (r .at) 0) (noRegion r) h in
     ap (counts n (r .count)) (sym (eqb-true (r .at) 0 (a .0))) ∙ region-zero r n p (a .1)
 
-phase-kept : (r : RawSession) → isPhase r ≡ true → countsOf (phaseOf r) ≡ told r
+phase-kept : (r : RawSession) → isPhase r ≡ true → countsOf (phaseOf r) ≡ countsIn r
 unfolding phaseOf isPhase
 phase-kept r h =
     by-test (eqb (r .phase) 0)

@@ -24,7 +24,7 @@ use Rattle.session.specs.declared.Phase.{Phase}
 use Rattle.session.specs.declared.Phase.the-variants as P
 use Rattle.session.specs.declared.Session.{Session}
 use Rattle.session.specs.declared.Stepped.{Stepped}
-use Rattle.session.specs.Step.{openedWith, filling, region}
+use Rattle.session.specs.Outcome.{openedWith, filling, region}
 use Rattle.session.specs.Answers.{answerNumber, answerValues}
 use Rattle.raw.specs.declared.Counts.{Counts}
 use Rattle.raw.specs.declared.RawSession.{RawSession}

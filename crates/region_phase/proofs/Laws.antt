@@ -7,7 +7,8 @@ use borrow.Author.Tests.{ltb-false, leb-false, ne-eqb}
 use lib.Dec.{ltb, leb, eqb}
 use lib.ListN.{length}
 use Rattle.session.specs.declared.Region.{Region}
-use Rattle.session.specs.Step.{entriesIn, regionLimit}
+use Rattle.session.specs.BetweenPhase.{entriesIn}
+use Rattle.session.specs.Limits.{regionLimit}
 use Rattle.turn.proofs.Laws.{neither}
 
 pub record Within (f k : ℕ) (x : Region) (t : List ℕ) : Type 0 where

@@ -4,7 +4,7 @@ use chunk::chunk_size;
 use chunk::due_after;
 use entry::entry_at;
 use filename::NameCheck;
-use filename::check_opened;
+use filename::check_after_open;
 use limits::past_memory;
 use limits::region_limit;
 use session::Answer;
@@ -22,18 +22,10 @@ ghost use mathlib.Core.List.{List};
 ghost use Prim.Native.Nat.{ℕ, _+_, _^_, _<_, _≤_};
 ghost use lib.ListN.{length};
 ghost use Rattle.entry.specs.Entry.{entryOf, filenameOf, there};
-ghost use Rattle.filename.specs.Filename.{openedCheck};
-ghost use Rattle.session.specs.Step.{
-  outcome,
-  region,
-  nextChunk,
-  begunOf,
-  askOf,
-  handOf,
-  regionOf,
-  readsLimit,
-  regionLimit,
-};
+ghost use Rattle.filename.specs.Filename.{afterOpenCheck};
+ghost use Rattle.session.specs.Outcome.{outcome, region};
+ghost use Rattle.session.specs.RegionPhase.{nextChunk, begunOf, askOf, handOf, regionOf};
+ghost use Rattle.session.specs.Limits.{readsLimit, regionLimit};
 ghost use Rattle.session.specs.Guard.{regionStep};
 
 // The region with other counts.
@@ -82,13 +74,13 @@ fn next_chunk(s: Session, k: usize, x: Region, out: &mut [u8]) -> Stepped
 fn begin_region(s: Session, k: usize, x: Region, table: &[u8], out: &mut [u8]) -> Stepped
     requires { ⌜ (48 ≤ length (now out)) × (there 8 (now table) (x .entry) ≡ true) × (s .reads ≤ 2 ^ 63 + 1) ⌝ }
     ensures { λ r. ⌜ ((y : List ℕ) → outcome r (now (table .entry)) y (now (out .exit))
-        ≡ begunOf 8 s k x (now (table .entry)) y (now (out .entry)) (openedCheck (filenameOf 8 (entryOf 8 (now (table .entry)) (x .entry))))) ⌝ }
+        ≡ begunOf 8 s k x (now (table .entry)) y (now (out .entry)) (afterOpenCheck (filenameOf 8 (entryOf 8 (now (table .entry)) (x .entry))))) ⌝ }
 {
     let i = x.entry;
     let at = entry_at(table, i);
     let entry = at.entry;
     let name = entry.filename;
-    let check = check_opened(&name);
+    let check = check_after_open(&name);
     if let NameCheck::Refused(why) = check {
         return moved(s, Phase::Ended(0), 0, Answer::Refused(why));
     }

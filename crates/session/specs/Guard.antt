@@ -1,5 +1,5 @@
--- A phase of a step by itself, for a session in any state: 3 and 18 first, as in the step, then the phase. The phases of the step are functions of their
--- own with these contracts; 1, 2 and 4 stand before them in the step.
+-- A phase of a step by itself, for a session in any state: 3, then 18, then the phase. The phases of the step are functions of their own with these
+-- contracts. In the step 1 and 2 stand before 3, and 4 stands between 3 and 18: it is a phase of its own, the ended one, so none of these gives it.
 use mathlib.Core.Bool.{Bool, _||_}
 use mathlib.Core.List.{List}
 use Prim.Native.Nat.{ℕ}
@@ -11,19 +11,12 @@ use Rattle.session.specs.declared.Region.{Region}
 use Rattle.session.specs.declared.Phase.{Phase}
 use Rattle.session.specs.declared.Phase.the-variants as P
 use Rattle.session.specs.declared.Session.{Session}
-use Rattle.session.specs.Step.{
-  Outcome,
-  outcome,
-  untouched,
-  readsLimit,
-  phaseLimit,
-  packetOf,
-  responseOf,
-  switchedOf,
-  tableOf,
-  betweenOf,
-  regionOf,
-}
+use Rattle.session.specs.Outcome.{Outcome, outcome, untouched}
+use Rattle.session.specs.PacketPhase.{packetOf}
+use Rattle.session.specs.FillingPhase.{responseOf, switchedOf, tableOf}
+use Rattle.session.specs.BetweenPhase.{betweenOf}
+use Rattle.session.specs.RegionPhase.{regionOf}
+use Rattle.session.specs.Limits.{readsLimit, phaseLimit}
 
 -- 18 for a session as if it were in the phase p
 abbrev pub limitAt : Session → Phase → List ℕ → List ℕ → Bool

@@ -1,3 +1,9 @@
 pub mod Answers
+pub mod Outcome
+pub mod PacketPhase
+pub mod FillingPhase
+pub mod BetweenPhase
+pub mod RegionPhase
+pub mod Limits
 pub mod Step
 pub mod Guard

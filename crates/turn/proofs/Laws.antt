@@ -17,7 +17,9 @@ use Rattle.session.specs.declared.Phase.{Phase}
 use Rattle.session.specs.declared.Session.{Session}
 use Rattle.session.specs.declared.Stepped.{Stepped}
 use Rattle.session.specs.declared.Answer.the-variants as A
-use Rattle.session.specs.Step.{Outcome, outcome, gives, untouched, entriesIn, readsLimit, phaseLimit}
+use Rattle.session.specs.Outcome.{Outcome, outcome, gives, untouched}
+use Rattle.session.specs.BetweenPhase.{entriesIn}
+use Rattle.session.specs.Limits.{readsLimit, phaseLimit}
 use Rattle.session.specs.Guard.{limitAt, guarded}
 use Rattle.turn.specs.Turn.{refusalOf}
 
@@ -69,8 +71,8 @@ module _ (s : Session) (p : Phase) (t y o : List ℕ) (x : Outcome) where
     guard-passed h q = q ∙ rw (eq-eqb n 0 h) at guard-is
 
 -- what an answer tells of an entry that is there
-pub told : (f : ℕ) (t : List ℕ) (i : ℕ) {r : EntryAt} → r ≡ entryAt f t i → there f t i ≡ true → r .entry ≡ decoded f (entryOf f t i)
-told f t i e h = ap (λ (x : EntryAt). x .entry) (e ∙ entry-there f t i h)
+pub entry-told : (f : ℕ) (t : List ℕ) (i : ℕ) {r : EntryAt} → r ≡ entryAt f t i → there f t i ≡ true → r .entry ≡ decoded f (entryOf f t i)
+entry-told f t i e h = ap (λ (x : EntryAt). x .entry) (e ∙ entry-there f t i h)
 
 -- an entry of the first k bytes of a table is there
 pub entry-within : (f k i : ℕ) (t : List ℕ) → i < entriesIn f k → k ≤ length t → there f t i ≡ true

@@ -6,7 +6,7 @@ use lib.Dec.{ltb}
 use lib.ListN.{length}
 use Rattle.base.specs.Choice.{pick}
 use Rattle.session.specs.declared.Session.{Session}
-use Rattle.session.specs.Step.{readsLimit}
+use Rattle.session.specs.Limits.{readsLimit}
 
 -- limited: a count of the phase is above its limit
 unfoldable pub refusalOf : Session → Bool → List ℕ → ℕ

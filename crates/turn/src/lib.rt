@@ -6,7 +6,7 @@ use session::Session;
 use session::Stepped;
 ghost use mathlib.Core.Path.{_≡_};
 ghost use Prim.Native.Nat.{min};
-ghost use Rattle.session.specs.Step.{gives, inPhase};
+ghost use Rattle.session.specs.Outcome.{gives, inPhase};
 ghost use Rattle.turn.specs.Turn.{refusalOf};
 
 // The lesser of two.

@@ -12,7 +12,7 @@ use lib.Seq.{split-at, drop-cons}
 use borrow.Author.Tests.{leb-true, le-leb, lt-leb}
 use Rattle.base.specs.Choice.{pick}
 use Rattle.utf8.specs.Utf8.{Range, from, within, Row, table, leads, afterFirst, goesOn, utf8}
-use Rattle.utf8.specs.Classes.{follow, followOf, leadOf, nextOf, asciiRun}
+use Rattle.utf8.specs.Classes.{follow, followOf, leadOf, classAfter, asciiRun}
 use Rattle.utf8.specs.declared.Follow.{Follow}
 use Rattle.utf8.specs.declared.Class.{Class}
 use Rattle.utf8.specs.declared.Class.the-variants as C
@@ -61,17 +61,17 @@ lead-goes true f rs bs e = ap (λ (l : List Range). goesOn l bs) (sym e)
 lead-goes false f rs bs e = refl
 
 -- one byte of a text, by its class
-pub goes-next : (f : Follow) (b : ℕ) (bs : List ℕ) → goesOn (rangesOf f) (b ∷ bs) ≡ goesAs (nextOf f b) bs
-unfolding goesOn pending nextOf leadOf
+pub goes-next : (f : Follow) (b : ℕ) (bs : List ℕ) → goesOn (rangesOf f) (b ∷ bs) ≡ goesAs (classAfter f b) bs
+unfolding goesOn pending classAfter leadOf
 goes-next f b bs = by (f .more) (f .low) (f .high) where
-  by : (n low high : ℕ) → goesOn (pending n low high) (b ∷ bs) ≡ goesAs (nextOf (follow n low high) b) bs
+  by : (n low high : ℕ) → goesOn (pending n low high) (b ∷ bs) ≡ goesAs (classAfter (follow n low high) b) bs
   by zero low high = lead-goes (leads table b) (followOf (afterFirst table b)) (afterFirst table b) bs (ranges-follow b)
   by (suc n) low high =
       let e : suc n - 1 ≡ n = omega arith in
       rw (eqb·suc-zero n, e) (lead-goes (within (from low high) b) (follow n 0x80 0xBF) (pending n 0x80 0xBF) bs refl)
 
 -- one turn of a walk over a text: what is to come and the bytes from i on, by the class of the byte there
-pub goes-turn : (f : Follow) (s : List ℕ) (i : ℕ) (x : Class) → i < length s → x ≡ nextOf f (getD s i 0)
+pub goes-turn : (f : Follow) (s : List ℕ) (i : ℕ) (x : Class) → i < length s → x ≡ classAfter f (getD s i 0)
     → goesOn (rangesOf f) (drop i s) ≡ goesAs x (drop (i + 1) s)
 goes-turn f s i x h e = rw (e, add-one, drop-cons s i 0) (goes-next f (getD s i 0) (drop (suc i) s))
 

@@ -23,8 +23,8 @@ unfoldable pub leadOf : ℕ → Class
 leadOf b = pick (leads table b) (C.Is (followOf (afterFirst table b))) C.Not
 
 -- what a byte is where f is to come: a lead byte where nothing is, else one of the first range
-unfoldable pub nextOf : Follow → ℕ → Class
-nextOf f b =
+unfoldable pub classAfter : Follow → ℕ → Class
+classAfter f b =
     pick (eqb (f .more) 0)
     (leadOf b)
     (pick (within (from (f .low) (f .high)) b) (C.Is (follow (f .more - 1) 0x80 0xBF)) C.Not)

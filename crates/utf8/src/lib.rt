@@ -1,7 +1,7 @@
 // UTF-8 after Unicode's table 3-7.
 ghost use mathlib.Core.Path.{_≡_};
 ghost use Rattle.utf8.specs.Utf8.{utf8};
-ghost use Rattle.utf8.specs.Classes.{follow, leadOf, nextOf, asciiRun};
+ghost use Rattle.utf8.specs.Classes.{follow, leadOf, classAfter, asciiRun};
 
 // What is still to come of a sequence: how many bytes, and the range of the first of them; those behind it are 0x80..=0xBF.
 pub struct Follow {
@@ -43,7 +43,7 @@ pub fn lead(b: u8) -> Class
 
 // A byte where f is to come: the next of a sequence, or a lead byte.
 fn next(f: Follow, b: u8) -> Class
-    ensures { λ r. ⌜ r ≡ nextOf f b ⌝ }
+    ensures { λ r. ⌜ r ≡ classAfter f b ⌝ }
 {
     if f.more == 0 {
         return lead(b);

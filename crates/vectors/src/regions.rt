@@ -4,8 +4,8 @@ use crate::text;
 use entry::RamdumpTable64;
 use entry::entry_at;
 use filename::NameCheck;
-use filename::check_opened;
-use filename::check_opening;
+use filename::check_after_open;
+use filename::check_open;
 use filename::stem_len;
 use selection::is_selected;
 use selection::next_selected;
@@ -44,14 +44,14 @@ fn name_check(c: NameCheck) {
 pub(crate) fn opening(line: &[u8]) {
     let mut name = [0u8; 1024];
     let n = text::bytes(line, 1, &mut name);
-    name_check(check_opening(&name[..n]));
+    name_check(check_open(&name[..n]));
 }
 
 // p NAME
 pub(crate) fn opened(line: &[u8]) {
     let mut name = [0u8; 1024];
     let n = text::bytes(line, 1, &mut name);
-    name_check(check_opened(&name[..n]));
+    name_check(check_after_open(&name[..n]));
 }
 
 fn texts(e: RamdumpTable64) {

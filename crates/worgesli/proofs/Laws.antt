@@ -13,7 +13,7 @@ use Rattle.raw.specs.declared.RawSession.{RawSession}
 use Rattle.raw.specs.declared.RawStepped.{RawStepped}
 use Rattle.raw.specs.Raw.{rawOf, phaseOf, sessionOf, isSession, rawStepped, refusedRaw, noSession}
 use Rattle.raw.proofs.Laws.{session-back, session-is, refused-told}
-use Rattle.worgesli.specs.Worgesli.{rawOutcome, told, stepRaw, closedRaw, wantedRaw}
+use Rattle.worgesli.specs.Worgesli.{rawOutcome, rawOutcomeOf, stepRaw, closedRaw, wantedRaw}
 
 -- the phase of the session that numbers are read as
 phase-read : (r : RawSession) → sessionOf r .phase ≡ phaseOf r
@@ -25,23 +25,23 @@ module _ (r : RawSession) (d set names t y o : List ℕ) where
   unfolding stepRaw
   step-no e = rw e refl
 
-  pub step-is : isSession r ≡ true → told (stepOf (sessionOf r) d set names t y o) ≡ stepRaw r d set names t y o
+  pub step-is : isSession r ≡ true → rawOutcomeOf (stepOf (sessionOf r) d set names t y o) ≡ stepRaw r d set names t y o
   unfolding stepRaw
   step-is e = rw e refl
 
   -- of a session's numbers: the image set is malformed, the names are, neither is
   pub step-images : isSession r ≡ true → wellFormed true set ≡ false → rawOutcome (refusedRaw r 1) t y o ≡ stepRaw r d set names t y o
   step-images e f =
-      ap (λ (x : RawStepped). rawOutcome x t y o) (refused-told r 1 e) ∙ ap told (sym (step-1 (sessionOf r) d set names t y o f)) ∙ step-is e
+      ap (λ (x : RawStepped). rawOutcome x t y o) (refused-told r 1 e) ∙ ap rawOutcomeOf (sym (step-1 (sessionOf r) d set names t y o f)) ∙ step-is e
 
   pub step-names : isSession r ≡ true → wellFormed true set ≡ true → wellFormed false names ≡ false → rawOutcome (refusedRaw r 2) t y o ≡ stepRaw r d set names t y o
   step-names e f g =
-      ap (λ (x : RawStepped). rawOutcome x t y o) (refused-told r 2 e) ∙ ap told (sym (step-2 (sessionOf r) d set names t y o f g)) ∙ step-is e
+      ap (λ (x : RawStepped). rawOutcome x t y o) (refused-told r 2 e) ∙ ap rawOutcomeOf (sym (step-2 (sessionOf r) d set names t y o f g)) ∙ step-is e
 
-  pub step-formed : isSession r ≡ true → wellFormed true set ≡ true → wellFormed false names ≡ true → told (phaseStep (sessionOf r) d set names t y o (phaseOf r)) ≡ stepRaw r d set names t y o
+  pub step-formed : isSession r ≡ true → wellFormed true set ≡ true → wellFormed false names ≡ true → rawOutcomeOf (phaseStep (sessionOf r) d set names t y o (phaseOf r)) ≡ stepRaw r d set names t y o
   step-formed e f g =
-      ap (λ (p : Phase). told (phaseStep (sessionOf r) d set names t y o p)) (sym (phase-read r))
-      ∙ ap told (sym (step-phase (sessionOf r) d set names t y o f g))
+      ap (λ (p : Phase). rawOutcomeOf (phaseStep (sessionOf r) d set names t y o p)) (sym (phase-read r))
+      ∙ ap rawOutcomeOf (sym (step-phase (sessionOf r) d set names t y o f g))
       ∙ step-is e
 
 pub closed-no : (r : RawSession) → isSession r ≡ false → noSession r ≡ closedRaw r
@@ -62,7 +62,7 @@ wanted-is r e = rw e refl
 
 -- ---- of a session's numbers: what the session does, told as numbers
 
-pub step-told : (s : Session) (d set names t y o : List ℕ) → stepRaw (rawOf s) d set names t y o ≡ told (stepOf s d set names t y o)
+pub step-told : (s : Session) (d set names t y o : List ℕ) → stepRaw (rawOf s) d set names t y o ≡ rawOutcomeOf (stepOf s d set names t y o)
 step-told s d set names t y o = rw (← step-is (rawOf s) d set names t y o (session-is s), session-back s) refl
 
 pub closed-told : (s : Session) → closedRaw (rawOf s) ≡ rawStepped (closedOf s)

@@ -15,13 +15,15 @@ use Rattle.verdict.specs.Opening.{chunkOf}
 use Rattle.session.specs.declared.Region.{Region}
 use Rattle.session.specs.declared.Phase.the-variants as P
 use Rattle.session.specs.declared.Session.{Session}
-use Rattle.session.specs.Step.{reading, region, dueAfter, regionLimit, regionOf, askOf, nextChunk, handOf}
+use Rattle.session.specs.Outcome.{reading, region}
+use Rattle.session.specs.RegionPhase.{dueAfter, regionOf, askOf, nextChunk, handOf}
+use Rattle.session.specs.Limits.{regionLimit}
 use Rattle.session.specs.Guard.{regionStep}
 use Rattle.host.specs.Host.{phaseStep}
 use Rattle.raw.specs.declared.RawSession.{RawSession}
 use Rattle.raw.specs.Raw.{openingOf, isOpening, regionIn, phaseOf, isPhase, rawOf, sessionOf, isSession, rawStepped}
 use Rattle.raw.proofs.Laws.{raw-back}
-use Rattle.worgesli.specs.Worgesli.{RawOutcome, rawOutcome, told, rawAt, steppedAt, stepRaw}
+use Rattle.worgesli.specs.Worgesli.{RawOutcome, rawOutcome, rawOutcomeOf, rawAt, steppedAt, stepRaw}
 use Rattle.worgesli.specs.Place.{
   regionAt,
   countedAt,
@@ -115,9 +117,9 @@ module _ (h n w d set names t y o : List ℕ) where
     unguarded = rw (q .room, q .reads, q .counts) refl
 
     -- the step is the region's
-    region-is : wellFormed true set ≡ true → wellFormed false names ≡ true → told (regionOf 8 s (r .count) x d t y o) ≡ stepRaw r d set names t y o
+    region-is : wellFormed true set ≡ true → wellFormed false names ≡ true → rawOutcomeOf (regionOf 8 s (r .count) x d t y o) ≡ stepRaw r d set names t y o
     region-is f g =
-        ap told (unguarded ∙ ap (phaseStep s d set names t y o) (sym (phase-region r (q .phase))))
+        ap rawOutcomeOf (unguarded ∙ ap (phaseStep s d set names t y o) (sym (phase-region r (q .phase))))
         ∙ step-formed r d set names t y o is-session f g
 
     -- the numbers of the session with other counts in the same region
@@ -130,17 +132,17 @@ module _ (h n w d set names t y o : List ℕ) where
         rw (ap (λ (z : RawSession). z .mode) b, ap (λ (z : RawSession). z .command) b, ap (λ (z : RawSession). z .backend) b, q .phase) refl
 
     -- what a region repeats, on its numbers
-    empty : x .due ≡ true → at-place (turnAt (s .opening) n x d o) ≡ told (regionOf 8 s (r .count) x d t y o)
+    empty : x .due ≡ true → at-place (turnAt (s .opening) n x d o) ≡ rawOutcomeOf (regionOf 8 s (r .count) x d t y o)
     unfolding turnAt regionOf rawStepped sessionOf
     empty e = rw (e, raw-counted (getD n 0 0) (x .done) (x .outstanding) false) refl
 
-    asks : x .due ≡ false → eqb (x .outstanding) 0 ≡ true → at-place (turnAt (s .opening) n x d o) ≡ told (regionOf 8 s (r .count) x d t y o)
+    asks : x .due ≡ false → eqb (x .outstanding) 0 ≡ true → at-place (turnAt (s .opening) n x d o) ≡ rawOutcomeOf (regionOf 8 s (r .count) x d t y o)
     unfolding turnAt askedAt regionOf askOf nextChunk rawStepped sessionOf
     asks e z =
         let m = goes-more x (q .goes) e z in
         rw (e, z, m .begun, lt-leb (x .len) (x .done) (ltb-true (x .done) (x .len) (m .less)), raw-counted (suc (getD n 0 0)) (x .done) (min (chunkOf (s .opening)) (x .len - x .done)) false) refl
 
-    hands : x .due ≡ false → eqb (x .outstanding) 0 ≡ false → at-place (turnAt (s .opening) n x d o) ≡ told (regionOf 8 s (r .count) x d t y o)
+    hands : x .due ≡ false → eqb (x .outstanding) 0 ≡ false → at-place (turnAt (s .opening) n x d o) ≡ rawOutcomeOf (regionOf 8 s (r .count) x d t y o)
     unfolding turnAt handedAt regionOf handOf rawStepped sessionOf
     hands e z =
         let k : ℕ = min (x .outstanding) (length d) in
@@ -148,7 +150,7 @@ module _ (h n w d set names t y o : List ℕ) where
         (λ b. rw (e, z, b, raw-back r is-session) refl)
         (λ b. rw (e, z, b, raw-counted (getD n 0 0) (x .done + k) (x .outstanding - k) (dueAfter (s .opening) (x .outstanding - k) (x .done + k))) refl)
 
-    turns : at-place (turnAt (s .opening) n x d o) ≡ told (regionOf 8 s (r .count) x d t y o)
+    turns : at-place (turnAt (s .opening) n x d o) ≡ rawOutcomeOf (regionOf 8 s (r .count) x d t y o)
     turns = by-test (x .due) empty (λ e. by-test (eqb (x .outstanding) 0) (asks e) (hands e))
 
     pub turn-is : wellFormed true set ≡ true → wellFormed false names ≡ true

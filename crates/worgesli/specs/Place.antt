@@ -11,7 +11,9 @@ use Rattle.build.specs.declared.Request.the-variants as Q
 use Rattle.verdict.specs.Opening.{chunkOf}
 use Rattle.verdict.specs.declared.Opening.{Opening}
 use Rattle.session.specs.declared.Region.{Region}
-use Rattle.session.specs.Step.{region, dueAfter, regionLimit}
+use Rattle.session.specs.Outcome.{region}
+use Rattle.session.specs.RegionPhase.{dueAfter}
+use Rattle.session.specs.Limits.{regionLimit}
 use Rattle.raw.specs.declared.RawTold.{RawTold}
 use Rattle.raw.specs.Raw.{isOpening}
 

@@ -7,7 +7,8 @@ use lib.ListN.{getD}
 use Rattle.base.specs.Choice.{pick}
 use Rattle.build.specs.declared.Request.the-variants as Q
 use Rattle.build.specs.Build as B
-use Rattle.session.specs.Step.{Outcome, stepOf, closedOf}
+use Rattle.session.specs.Outcome.{Outcome}
+use Rattle.session.specs.Step.{stepOf, closedOf}
 use Rattle.host.specs.Host.{wantedOf}
 use Rattle.raw.specs.declared.RawSession.{RawSession}
 use Rattle.raw.specs.declared.RawStepped.{RawStepped}
@@ -25,13 +26,13 @@ pub record RawOutcome : Type 0 where
 abbrev pub rawOutcome : RawStepped → List ℕ → List ℕ → List ℕ → RawOutcome
 rawOutcome r t y o = record { stepped = r; table = t; reply = y; out = o }
 
-abbrev pub told : Outcome → RawOutcome
-told x = rawOutcome (rawStepped (x .stepped)) (x .table) (x .reply) (x .out)
+abbrev pub rawOutcomeOf : Outcome → RawOutcome
+rawOutcomeOf x = rawOutcome (rawStepped (x .stepped)) (x .table) (x .reply) (x .out)
 
 -- session, delivery, image set, names, table, reply and out buffers
 unfoldable pub stepRaw : RawSession → List ℕ → List ℕ → List ℕ → List ℕ → List ℕ → List ℕ → RawOutcome
 stepRaw r d set names t y o =
-    pick (isSession r) (told (stepOf (sessionOf r) d set names t y o)) (rawOutcome (noSession r) t y o)
+    pick (isSession r) (rawOutcomeOf (stepOf (sessionOf r) d set names t y o)) (rawOutcome (noSession r) t y o)
 
 -- a session in place: mode, command, backend and phase; the eight large numbers; the window
 abbrev pub rawAt : List ℕ → List ℕ → List ℕ → RawSession

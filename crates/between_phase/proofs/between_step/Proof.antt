@@ -6,7 +6,8 @@ use denote.Ref.{now}
 use borrow.Author.Tests.{ltb-false}
 use Rattle.session.specs.declared.Phase.the-variants as P
 use Rattle.session.specs.declared.Stepped.{Stepped}
-use Rattle.session.specs.Step.{outcome, entriesIn}
+use Rattle.session.specs.Outcome.{outcome}
+use Rattle.session.specs.BetweenPhase.{entriesIn}
 use Rattle.session.specs.Guard.{betweenStep}
 use Rattle.turn.proofs.Laws.{neither, passed, guard-refused, guard-passed}
 use borrow.Author.Needs.{needs}

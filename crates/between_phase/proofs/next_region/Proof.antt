@@ -5,7 +5,7 @@ use native.Mathlib.Omega.{arith}
 use denote.Ref.{now}
 use borrow.Author.Tests.{lt-ltb, le-ltb}
 use Rattle.selection.specs.Selection.{nextOf}
-use Rattle.session.specs.Step.{entriesIn, betweenOf}
+use Rattle.session.specs.BetweenPhase.{entriesIn, betweenOf}
 use Rattle.turn.proofs.Laws.{entry-within}
 use borrow.Author.Needs.{needs}
 use Rattle.between_phase.proofs.next_region.Statement.{statement}

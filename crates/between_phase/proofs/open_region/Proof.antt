@@ -3,8 +3,8 @@ use mathlib.Core.Path.{_≡_, ap, sym, _∙_}
 use denote.Ref.{now}
 use Rattle.entry.specs.Entry.{entryOf, filenameOf, decoded}
 use Rattle.entry.specs.declared.RamdumpTable64.{RamdumpTable64}
-use Rattle.filename.specs.Filename.{openingCheck}
-use Rattle.turn.proofs.Laws.{told}
+use Rattle.filename.specs.Filename.{openCheck}
+use Rattle.turn.proofs.Laws.{entry-told}
 use borrow.Author.Needs.{needs}
 use Rattle.between_phase.proofs.open_region.Statement.{statement}
 use Rattle.between_phase.proofs.open_region.Tie as tie
@@ -14,21 +14,21 @@ read : (c : tie.After-entry-at) → (let a = c .before .before .args in
     c .entry-at .result .entry ≡ decoded 8 (entryOf 8 (now (a .table)) (a .i)))
 read c =
     let b = c .before .before in
-    told 8 (now (b .args .table)) (b .args .i) (c .entry-at .ensures) (b .pre)
+    entry-told 8 (now (b .args .table)) (b .args .i) (c .entry-at .ensures) (b .pre)
 
 -- so is the name that was tested
-tested : (c : tie.After-check-opening) → (let a = c .before .before .before .before .before .before .args in
-    c .check-opening .result ≡ openingCheck (filenameOf 8 (entryOf 8 (now (a .table)) (a .i))))
-tested c = c .check-opening .ensures ∙ ap (λ (e : RamdumpTable64). openingCheck (e .filename)) (read (c .before .before .before .before))
+tested : (c : tie.After-check-open) → (let a = c .before .before .before .before .before .before .args in
+    c .check-open .result ≡ openCheck (filenameOf 8 (entryOf 8 (now (a .table)) (a .i))))
+tested c = c .check-open .ensures ∙ ap (λ (e : RamdumpTable64). openCheck (e .filename)) (read (c .before .before .before .before))
 
 entry-at-requires : tie.Need-entry-at-requires
 entry-at-requires c κs = search needs
 
-slice-aggregate-check-opening : tie.Need-slice-aggregate-check-opening
-slice-aggregate-check-opening c = search needs
+slice-aggregate-check-open : tie.Need-slice-aggregate-check-open
+slice-aggregate-check-open c = search needs
 
-check-opening-requires : tie.Need-check-opening-requires
-check-opening-requires c κs = search needs
+check-open-requires : tie.Need-check-open-requires
+check-open-requires c κs = search needs
 
 enum-known-check : tie.Need-enum-known-check
 enum-known-check c = search needs
@@ -55,8 +55,8 @@ open-region-spec =
     tie.close
     (tie.spec
     entry-at-requires
-    slice-aggregate-check-opening
-    check-opening-requires
+    slice-aggregate-check-open
+    check-open-requires
     enum-known-check
     moved-requires
     enum-told

@@ -6,7 +6,7 @@ use native.Mathlib.Omega.{arith}
 use denote.Ref.{now}
 use lib.ListN.{length}
 use borrow.Author.Tests.{lt-ltb, le-ltb, le-leb, lt-leb}
-use Rattle.bundle.specs.Bundle.{countOf, startOf, lengthOf, dataOf, absent, slotOf}
+use Rattle.bundle.specs.Bundle.{countOf, slotStartOf, slotLengthOf, dataFrom, absent, slotOf}
 use borrow.Author.Needs.{needs}
 use Rattle.bundle.proofs.slot_at.Statement.{statement}
 use Rattle.bundle.proofs.slot_at.Tie as tie
@@ -29,7 +29,7 @@ unfolding slotOf
 returns-2 c =
     let B = now (c .before .before .before .before .args .b) in
     let l : 8 ≤ length B = omega arith in
-    let d : length B < dataOf B = omega arith in
+    let d : length B < dataFrom B = omega arith in
     simp (le-ltb _ _ l, lt-ltb _ _ d)
 
 returns-3 : tie.Need-returns-3
@@ -38,7 +38,7 @@ returns-3 c =
     let a = c .before .before .before .before .before .args in
     let B = now (a .b) in
     let l : 8 ≤ length B = omega arith in
-    let d : dataOf B ≤ length B = omega arith in
+    let d : dataFrom B ≤ length B = omega arith in
     let n : countOf B ≤ a .i = omega arith in
     simp (le-ltb _ _ l, le-ltb _ _ d, le-leb _ _ n)
 
@@ -57,7 +57,7 @@ returns-4 c =
     let a = c .before .before .before .before .before .before .before .before .before .args in
     let B = now (a .b) in
     let l : 8 ≤ length B = omega arith in
-    let d : dataOf B ≤ length B = omega arith in
+    let d : dataFrom B ≤ length B = omega arith in
     let n : a .i < countOf B = omega arith in
     let e : absent B (a .i) ≡ true = cc in
     simp (le-ltb _ _ l, le-ltb _ _ d, lt-leb _ _ n, e)
@@ -74,10 +74,10 @@ returns-5 c =
     let a = c .before .before .before .before .before .before .before .before .before .before .args in
     let B = now (a .b) in
     let l : 8 ≤ length B = omega arith in
-    let d : dataOf B ≤ length B = omega arith in
+    let d : dataFrom B ≤ length B = omega arith in
     let n : a .i < countOf B = omega arith in
     let e : absent B (a .i) ≡ false = cc in
-    let o : length B < dataOf B + startOf B (a .i) + lengthOf B (a .i) = omega arith in
+    let o : length B < dataFrom B + slotStartOf B (a .i) + slotLengthOf B (a .i) = omega arith in
     simp (le-ltb _ _ l, le-ltb _ _ d, lt-leb _ _ n, e, lt-ltb _ _ o)
 
 add-t7 : tie.Need-add-t7
@@ -89,10 +89,10 @@ returns-6 c =
     let a = c .before .before .before .before .before .before .before .before .before .before .args in
     let B = now (a .b) in
     let l : 8 ≤ length B = omega arith in
-    let d : dataOf B ≤ length B = omega arith in
+    let d : dataFrom B ≤ length B = omega arith in
     let n : a .i < countOf B = omega arith in
     let e : absent B (a .i) ≡ false = cc in
-    let o : dataOf B + startOf B (a .i) + lengthOf B (a .i) ≤ length B = omega arith in
+    let o : dataFrom B + slotStartOf B (a .i) + slotLengthOf B (a .i) ≤ length B = omega arith in
     simp (le-ltb _ _ l, le-ltb _ _ d, lt-leb _ _ n, e, le-ltb _ _ o) cc
 
 pub slot-at-spec : {M : Type 1} → statement M

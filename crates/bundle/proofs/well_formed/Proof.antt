@@ -5,7 +5,7 @@ use native.Mathlib.Omega.{arith}
 use denote.Ref.{now}
 use lib.ListN.{length}
 use borrow.Author.Tests.{lt-ltb, le-ltb, eq-eqb, ne-eqb}
-use Rattle.bundle.specs.Bundle.{countOf, sizeOf, wellFormed}
+use Rattle.bundle.specs.Bundle.{countOf, dataSizeOf, wellFormed}
 use borrow.Author.Needs.{needs}
 use Rattle.bundle.proofs.well_formed.Statement.{statement}
 use Rattle.bundle.proofs.well_formed.Tie as tie
@@ -43,7 +43,7 @@ returns-3 c =
     let B = now (c .before .before .before .before .before .before .args .b) in
     let l : 8 ≤ length B = omega arith in
     let f : countOf B ≤ 64 = omega arith in
-    let e : length B ≡ 8 + 8 * countOf B + sizeOf B → ⊥ = λ q. omega arith in
+    let e : length B ≡ 8 + 8 * countOf B + dataSizeOf B → ⊥ = λ q. omega arith in
     simp (le-ltb _ _ l, le-ltb _ _ f, ne-eqb _ _ e)
 
 slots-good-requires : tie.Need-slots-good-requires
@@ -55,7 +55,7 @@ returns-4 c =
     let B = now (c .before .before .before .before .before .before .before .args .b) in
     let l : 8 ≤ length B = omega arith in
     let f : countOf B ≤ 64 = omega arith in
-    let e : length B ≡ 8 + 8 * countOf B + sizeOf B = omega arith in
+    let e : length B ≡ 8 + 8 * countOf B + dataSizeOf B = omega arith in
     simp (le-ltb _ _ l, le-ltb _ _ f, eq-eqb _ _ e) cc
 
 pub well-formed-spec : {M : Type 1} → statement M

@@ -6,7 +6,8 @@ use Rattle.build.specs.Build as B
 use Rattle.build.specs.declared.Request.the-variants as Q
 use Rattle.build.proofs.Laws.{build-long}
 use Rattle.session.specs.declared.Phase.the-variants as P
-use Rattle.session.specs.Step.{Outcome, responseOf}
+use Rattle.session.specs.Outcome.{Outcome}
+use Rattle.session.specs.FillingPhase.{responseOf}
 use Rattle.session.specs.Guard.{responseStep}
 use Rattle.turn.proofs.Laws.{passed, guard-refused, guard-passed}
 use Rattle.filling_phase.proofs.Laws.{room}
@@ -100,7 +101,7 @@ returns-3 c =
     let a = begun g .args in
     let e = f .fill .ensures in
     let h = passed (a .s) _ (now (a .out)) (g .guard .ensures) (f .before .before .if1 .left) .room in
-    let b = ap (λ (u : B.Outcome). u .out) (w .build .ensures ∙ build-long Q.SwitchMode (now (a .out)) h) in
+    let b = ap (λ (u : B.BuildOutcome). u .out) (w .build .ensures ∙ build-long Q.SwitchMode (now (a .out)) h) in
     behind f (simp (le-ltb _ _ (rw (e .0) at (i .if2 .left)), e .1, e .0, c .moved2 .ensures, b))
 
 pub response-step-spec : {M : Type 1} → statement M

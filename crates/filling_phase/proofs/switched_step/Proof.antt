@@ -3,7 +3,8 @@ use mathlib.Core.Path.{refl, ap}
 use denote.Ref.{now}
 use Rattle.session.specs.declared.Phase.the-variants as P
 use Rattle.session.specs.declared.Stepped.{Stepped}
-use Rattle.session.specs.Step.{outcome, switchedOf}
+use Rattle.session.specs.Outcome.{outcome}
+use Rattle.session.specs.FillingPhase.{switchedOf}
 use Rattle.session.specs.Guard.{switchedStep}
 use Rattle.turn.proofs.Laws.{guard-refused, guard-passed}
 use borrow.Author.Needs.{needs}

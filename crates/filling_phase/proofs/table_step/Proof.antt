@@ -3,7 +3,8 @@ use mathlib.Core.Path.{_≡_}
 use denote.Ref.{now}
 use borrow.Author.Tests.{lt-ltb, le-ltb}
 use Rattle.session.specs.declared.Phase.the-variants as P
-use Rattle.session.specs.Step.{Outcome, tableOf}
+use Rattle.session.specs.Outcome.{Outcome}
+use Rattle.session.specs.FillingPhase.{tableOf}
 use Rattle.session.specs.Guard.{tableStep}
 use Rattle.turn.proofs.Laws.{guard-refused, guard-passed}
 use Rattle.filling_phase.proofs.Laws.{room}

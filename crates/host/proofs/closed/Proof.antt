@@ -1,7 +1,7 @@
 -- `host::closed` meets its contract: by whether the session is ended. Assumes nothing.
 use mathlib.Core.Path.{_≡_, sym, _∙_}
 use mathlib.Core.Bool.{true, false}
-use Rattle.session.specs.Step.{isEnded}
+use Rattle.session.specs.Outcome.{isEnded}
 use Rattle.host.proofs.Laws.{closed-live, closed-ended}
 use borrow.Author.Needs.{needs}
 use Rattle.host.proofs.closed.Statement.{statement}

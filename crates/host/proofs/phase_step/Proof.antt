@@ -7,7 +7,7 @@ use denote.Ref.{now}
 use lib.ListN.{length}
 use Rattle.session.specs.declared.Phase.{Phase}
 use Rattle.session.specs.declared.Stepped.{Stepped}
-use Rattle.session.specs.Step.{Outcome, outcome}
+use Rattle.session.specs.Outcome.{Outcome, outcome}
 use Rattle.host.specs.Host.{phaseStep}
 use borrow.Author.Needs.{needs}
 use Rattle.host.proofs.phase_step.Statement.{statement}

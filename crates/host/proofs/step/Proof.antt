@@ -6,7 +6,7 @@ use Rattle.bundle.specs.Bundle.{wellFormed, imagesChecked, namesChecked}
 use Rattle.bundle.specs.declared.Checked.the-variants as C
 use Rattle.bundle.proofs.Laws.{checked-good, checked-refused}
 use Rattle.session.specs.declared.Stepped.{Stepped}
-use Rattle.session.specs.Step.{outcome}
+use Rattle.session.specs.Outcome.{outcome}
 use Rattle.host.proofs.Laws.{step-1, step-2, step-phase}
 use borrow.Author.Needs.{needs}
 use Rattle.host.proofs.step.Statement.{statement}

@@ -9,7 +9,7 @@ use borrow.Author.Tests.{lt-ltb, le-ltb}
 use lib.ListN.{length}
 use lib.Seq.{length-take-le}
 use Rattle.packet.specs.Packet.{badLength}
-use Rattle.session.specs.Step.{bodyOf}
+use Rattle.session.specs.PacketPhase.{sizedOf}
 use Rattle.limits.proofs.Laws.{good-length, refused-length}
 use borrow.Author.Needs.{needs}
 use Rattle.packet_phase.proofs.body.Statement.{statement}
@@ -38,7 +38,7 @@ moved-requires : tie.Need-moved-requires
 moved-requires c κs = search needs
 
 returns : tie.Need-returns
-unfolding bodyOf
+unfolding sizedOf
 returns c =
     let k = c .before .before in
     let r = k .before .before in
@@ -68,7 +68,7 @@ holds-requires : tie.Need-holds-requires
 holds-requires c κs = search needs
 
 returns-2 : tie.Need-returns-2
-unfolding bodyOf
+unfolding sizedOf
 returns-2 c =
     let k = c .before .before in
     let m = k .before .before .before in
@@ -85,7 +85,7 @@ same-length : tie.Need-same-length
 same-length c = search needs
 
 returns-3 : tie.Need-returns-3
-unfolding bodyOf
+unfolding sizedOf
 returns-3 c =
     let i = c .before .before .before .before in
     let k = i .before in

@@ -6,7 +6,7 @@ use native.Mathlib.Omega.{arith}
 use denote.Ref.{now}
 use borrow.Author.Tests.{lt-ltb, le-ltb}
 use lib.ListN.{length}
-use Rattle.session.specs.Step.{packetOf}
+use Rattle.session.specs.PacketPhase.{packetOf}
 use borrow.Author.Needs.{needs}
 use Rattle.packet_phase.proofs.packet.Statement.{statement}
 use Rattle.packet_phase.proofs.packet.Tie as tie

@@ -6,7 +6,7 @@ use native.Mathlib.Omega.{arith}
 use denote.Ref.{now}
 use lib.ListN.{length}
 use Rattle.build.proofs.Laws.{build-long}
-use Rattle.build.specs.Build.{sizeOf, Outcome}
+use Rattle.build.specs.Build.{sizeOf, BuildOutcome}
 use Rattle.build.specs.declared.Built.the-variants as T
 use borrow.Author.Needs.{needs}
 use Rattle.packet_phase.proofs.sent.Statement.{statement}
@@ -30,9 +30,9 @@ returns c =
     let o : List ℕ = now (a .out) in
     let l : 48 ≤ length o = omega arith in
     let e = c .before .before .before .before .before .build .ensures ∙ build-long (a .q) o l in
-    let r : c .before .before .before .before .before .build .result ≡ T.Send (sizeOf (a .q)) = ap (λ (x : Outcome). x .built) e in
+    let r : c .before .before .before .before .before .build .result ≡ T.Send (sizeOf (a .q)) = ap (λ (x : BuildOutcome). x .built) e in
     let k : c .before .k .given .0 .0 ≡ sizeOf (a .q) = cc in
-    (rw k refl, ap (λ (x : Outcome). x .out) e)
+    (rw k refl, ap (λ (x : BuildOutcome). x .out) e)
 
 same-length-2 : tie.Need-same-length-2
 same-length-2 c = search needs
@@ -43,7 +43,7 @@ returns-2 c =
     let o : List ℕ = now (a .out) in
     let l : 48 ≤ length o = omega arith in
     let e = c .before .before .before .before .before .build .ensures ∙ build-long (a .q) o l in
-    let r : c .before .before .before .before .before .build .result ≡ T.Send (sizeOf (a .q)) = ap (λ (x : Outcome). x .built) e in
+    let r : c .before .before .before .before .before .build .result ≡ T.Send (sizeOf (a .q)) = ap (λ (x : BuildOutcome). x .built) e in
     let z : _≡_ {A = ℕ} 0 1 = cc in
     absurd (omega arith)
 

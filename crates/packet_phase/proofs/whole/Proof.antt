@@ -9,7 +9,7 @@ use lib.Seq.{length-take-le}
 use Rattle.packet.specs.Packet.{lengthField}
 use Rattle.packet_phase.proofs.Laws.{window-take}
 use Rattle.verdict.specs.Verdict.{verdictOf}
-use Rattle.session.specs.Step.{acted, wholeOf}
+use Rattle.session.specs.PacketPhase.{acted, wholeOf}
 use borrow.Author.Needs.{needs}
 use Rattle.packet_phase.proofs.whole.Statement.{statement}
 use Rattle.packet_phase.proofs.whole.Tie as tie

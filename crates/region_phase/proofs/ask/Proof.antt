@@ -3,7 +3,7 @@ use Prim.Native.Nat.{_+_, _^_}
 use native.Mathlib.Omega.{arith}
 use denote.Ref.{now}
 use borrow.Author.Tests.{eq-eqb, ne-eqb, ltb-false}
-use Rattle.session.specs.Step.{askOf}
+use Rattle.session.specs.RegionPhase.{askOf}
 use Rattle.turn.proofs.Laws.{entry-within}
 use Rattle.region_phase.proofs.Laws.{region-within}
 use borrow.Author.Needs.{needs}

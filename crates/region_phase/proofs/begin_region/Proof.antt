@@ -10,33 +10,33 @@ use borrow.Author.Tests.{ltb-false}
 use Rattle.entry.specs.Entry.{entryOf, filenameOf}
 use Rattle.entry.specs.declared.RamdumpTable64.{RamdumpTable64}
 use Rattle.entry.proofs.Laws.{there-fits}
-use Rattle.filename.specs.Filename.{openedCheck}
-use Rattle.turn.proofs.Laws.{told}
+use Rattle.filename.specs.Filename.{afterOpenCheck}
+use Rattle.turn.proofs.Laws.{entry-told}
 use borrow.Author.Needs.{needs}
 use Rattle.region_phase.proofs.begin_region.Statement.{statement}
 use Rattle.region_phase.proofs.begin_region.Tie as tie
 
 -- where the function begins, from behind the test of the name
-abbrev begun : tie.After-check-opened → tie.Start
+abbrev begun : tie.After-check-after-open → tie.Start
 begun c = c .before .before .before .before .before .before .before
 
 -- there the name that was tested is the entry's
-tested : (c : tie.After-check-opened) → (let a = begun c .args in
-    c .check-opened .result ≡ openedCheck (filenameOf 8 (entryOf 8 (now (a .table)) (a .x .entry))))
+tested : (c : tie.After-check-after-open) → (let a = begun c .args in
+    c .check-after-open .result ≡ afterOpenCheck (filenameOf 8 (entryOf 8 (now (a .table)) (a .x .entry))))
 tested c =
     let a = begun c .args in
-    c .check-opened .ensures
-    ∙ ap (λ (e : RamdumpTable64). openedCheck (e .filename))
-    (told 8 (now (a .table)) (a .x .entry) (c .before .before .before .before .entry-at .ensures) (begun c .pre .1))
+    c .check-after-open .ensures
+    ∙ ap (λ (e : RamdumpTable64). afterOpenCheck (e .filename))
+    (entry-told 8 (now (a .table)) (a .x .entry) (c .before .before .before .before .entry-at .ensures) (begun c .pre .1))
 
 entry-at-requires : tie.Need-entry-at-requires
 entry-at-requires c κs = search needs
 
-slice-aggregate-check-opened : tie.Need-slice-aggregate-check-opened
-slice-aggregate-check-opened c = search needs
+slice-aggregate-check-after-open : tie.Need-slice-aggregate-check-after-open
+slice-aggregate-check-after-open c = search needs
 
-check-opened-requires : tie.Need-check-opened-requires
-check-opened-requires c κs = search needs
+check-after-open-requires : tie.Need-check-after-open-requires
+check-after-open-requires c κs = search needs
 
 enum-known-check : tie.Need-enum-known-check
 enum-known-check c = search needs
@@ -96,8 +96,8 @@ begin-region-spec =
     tie.close
     (tie.spec
     entry-at-requires
-    slice-aggregate-check-opened
-    check-opened-requires
+    slice-aggregate-check-after-open
+    check-after-open-requires
     enum-known-check
     moved-requires
     returns

@@ -1,6 +1,6 @@
 -- `region_phase::hand_out` meets its contract: the counts fit, and each part is what the call gives. Assumes nothing.
 use borrow.Author.Tests.{eq-eqb, ne-eqb}
-use Rattle.session.specs.Step.{handOf}
+use Rattle.session.specs.RegionPhase.{handOf}
 use borrow.Author.Needs.{needs}
 use Rattle.region_phase.proofs.hand_out.Statement.{statement}
 use Rattle.region_phase.proofs.hand_out.Tie as tie

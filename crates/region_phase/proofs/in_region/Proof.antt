@@ -3,7 +3,7 @@ use mathlib.Core.Path.{_≡_}
 use mathlib.Core.Bool.{true, false}
 use denote.Ref.{now}
 use borrow.Author.Tests.{eq-eqb, ne-eqb}
-use Rattle.session.specs.Step.{regionOf}
+use Rattle.session.specs.RegionPhase.{regionOf}
 use Rattle.region_phase.proofs.Laws.{region-within}
 use borrow.Author.Needs.{needs}
 use Rattle.region_phase.proofs.in_region.Statement.{statement}

@@ -5,11 +5,11 @@ use Prim.Native.Nat.{ℕ, _+_, _-_, min}
 use native.Mathlib.Numerals.{add-one}
 use denote.Ref.{now}
 use borrow.Author.Tests.{le-leb, lt-leb}
-use Rattle.build.specs.Build.{Outcome, front}
+use Rattle.build.specs.Build.{BuildOutcome, front}
 use Rattle.build.specs.declared.Request.the-variants as Q
 use Rattle.build.proofs.Laws.{build-long}
 use Rattle.verdict.specs.Opening.{chunkOf}
-use Rattle.session.specs.Step.{nextChunk}
+use Rattle.session.specs.RegionPhase.{nextChunk}
 use borrow.Author.Needs.{needs}
 use Rattle.region_phase.proofs.next_chunk.Statement.{statement}
 use Rattle.region_phase.proofs.next_chunk.Tie as tie
@@ -61,7 +61,7 @@ returns-2 c =
     let e : n ≡ min (chunkOf (a .s .opening)) (a .x .len - a .x .done) =
     l .least .ensures ∙ ap (λ (k : ℕ). min k (a .x .len - a .x .done)) (l .before .before .chunk-size .ensures) in
     let u = m .ensures ∙ build-long (Q.MemRead64 (a .x .base + a .x .done) n) (now (a .out)) (b .pre .0) in
-    let o : m .last .0 ≡ front (Q.MemRead64 (a .x .base + a .x .done) n) (now (a .out)) = ap (λ (x : Outcome). x .out) u in
+    let o : m .last .0 ≡ front (Q.MemRead64 (a .x .base + a .x .done) n) (now (a .out)) = ap (λ (x : BuildOutcome). x .out) u in
     simp (lt-leb _ _ (i .if1 .left), c .before .counted .ensures, o, e, add-one)
 
 pub next-chunk-spec : {M : Type 1} → statement M

@@ -2,7 +2,7 @@
 use mathlib.Core.Path.{_≡_}
 use mathlib.Core.Bool.{true, false}
 use borrow.Author.Tests.{lt-ltb, le-ltb}
-use Rattle.session.specs.Step.{readsLimit}
+use Rattle.session.specs.Limits.{readsLimit}
 use Rattle.turn.specs.Turn.{refusalOf}
 use borrow.Author.Needs.{needs}
 use Rattle.turn.proofs.guard.Statement.{statement}

@@ -1,6 +1,6 @@
 -- `worgesli_reset` meets its contract: the two calls, one after the other. Assumes nothing.
 use mathlib.Core.Path.{ap}
-use Rattle.build.specs.Build.{Outcome}
+use Rattle.build.specs.Build.{BuildOutcome}
 use Rattle.raw_records.specs.Records.{builtNumber}
 use Rattle.worgesli.specs.Worgesli.{resetOutcome, resetRaw}
 use borrow.Author.Needs.{needs}
@@ -20,7 +20,7 @@ returns : tie.Need-returns
 unfolding resetRaw
 returns c =
     let e = c .before .before .before .sahara-reset .ensures in
-    rw (c .built-number .ensures) (ap (λ (x : Outcome). resetOutcome (builtNumber (x .built)) (x .out)) e)
+    rw (c .built-number .ensures) (ap (λ (x : BuildOutcome). resetOutcome (builtNumber (x .built)) (x .out)) e)
 
 pub worgesli-reset-spec : {M : Type 1} → statement M
 worgesli-reset-spec =

@@ -3,7 +3,7 @@ use mathlib.Core.Path.{_≡_, ap, _∙_}
 use Prim.Native.Nat.{ℕ, _+_, _-_, min}
 use native.Mathlib.Numerals.{add-one}
 use denote.Ref.{now}
-use Rattle.build.specs.Build.{Outcome, front}
+use Rattle.build.specs.Build.{BuildOutcome, front}
 use Rattle.build.specs.declared.Request.the-variants as Q
 use Rattle.build.proofs.Laws.{build-long}
 use Rattle.verdict.specs.Opening.{chunkOf}
@@ -53,7 +53,7 @@ returns c =
     let e : n ≡ min (chunkOf (a .opening)) (a .x .len - a .x .done) =
     l .least .ensures ∙ ap (λ (k : ℕ). min k (a .x .len - a .x .done)) (l .before .before .chunk-size .ensures) in
     let u = m .ensures ∙ build-long (Q.MemRead64 (a .x .base + a .x .done) n) (now (a .out)) (b .pre .0) in
-    let o : m .last .0 ≡ front (Q.MemRead64 (a .x .base + a .x .done) n) (now (a .out)) = ap (λ (z : Outcome). z .out) u in
+    let o : m .last .0 ≡ front (Q.MemRead64 (a .x .base + a .x .done) n) (now (a .out)) = ap (λ (z : BuildOutcome). z .out) u in
     simp (c .told .ensures, c .before .count .ensures, o, e, add-one)
 
 pub ask-spec : {M : Type 1} → statement M

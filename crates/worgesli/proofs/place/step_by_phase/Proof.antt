@@ -6,13 +6,13 @@ use borrow.Author.Tests.{not-true, not-false}
 use Rattle.bundle.specs.Bundle.{wellFormed, imagesChecked, namesChecked}
 use Rattle.bundle.specs.declared.Checked.the-variants as C
 use Rattle.bundle.proofs.Laws.{checked-good, checked-refused}
-use Rattle.session.specs.Step.{outcome}
+use Rattle.session.specs.Outcome.{outcome}
 use Rattle.host.specs.Host.{phaseStep}
 use Rattle.raw.specs.declared.RawSession.{RawSession}
 use Rattle.raw.specs.declared.RawStepped.{RawStepped}
 use Rattle.raw.specs.declared.RawTold.{RawTold}
 use Rattle.raw.specs.Raw.{phaseOf, sessionOf, isSession}
-use Rattle.worgesli.specs.Worgesli.{rawOutcome, told, rawAt, steppedAt}
+use Rattle.worgesli.specs.Worgesli.{rawOutcome, rawOutcomeOf, rawAt, steppedAt}
 use Rattle.worgesli.proofs.Laws.{step-no, step-images, step-names, step-formed}
 use borrow.Author.Needs.{needs}
 use Rattle.worgesli.proofs.place.step_by_phase.Statement.{statement}
@@ -140,7 +140,7 @@ returns-4 c =
     ≡ phaseStep (sessionOf (at i)) (now (a .delivery)) (now (a .set)) (now (a .names)) (now (a .table)) (now (a .reply)) (now (a .out)) (phaseOf (at i)) =
     rw (← p .before .session-of .ensures ∙ ap sessionOf r, ← p .phase-of .ensures ∙ ap phaseOf r) (s .ensures) in
     ap (λ (z : RawStepped). rawOutcome z (l .0) (l .1 .0) (l .1 .1 .0)) (c .put-back .ensures ∙ c .before .before .before .before .raw-stepped .ensures)
-    ∙ ap told o
+    ∙ ap rawOutcomeOf o
     ∙ step-formed (at i) (now (a .delivery)) (now (a .set)) (now (a .names)) (now (a .table)) (now (a .reply)) (now (a .out))
     (tested i true (not-false _ (g .before .before .before .before .before .before .if1 .left))) (images-formed g) (names-formed g)
 

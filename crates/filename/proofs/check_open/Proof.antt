@@ -1,4 +1,4 @@
--- `filename::check_opening` meets its contract: what `find` found says whether there is a zero byte, and `valid` was lent the bytes before it.
+-- `filename::check_open` meets its contract: what `find` found says whether there is a zero byte, and `valid` was lent the bytes before it.
 -- Assumes nothing.
 use mathlib.Core.Path.{sym}
 use mathlib.Core.List.{List}
@@ -8,8 +8,8 @@ use denote.Ref.{now}
 use lib.Seq.{length-take-le}
 use Rattle.filename.proofs.Laws.{length-before, opening-none, opening-one}
 use borrow.Author.Needs.{needs}
-use Rattle.filename.proofs.check_opening.Statement.{statement}
-use Rattle.filename.proofs.check_opening.Tie as tie
+use Rattle.filename.proofs.check_open.Statement.{statement}
+use Rattle.filename.proofs.check_open.Tie as tie
 
 find-requires : tie.Need-find-requires
 find-requires c κs = search needs
@@ -39,7 +39,7 @@ returns-3 c =
     let v = c .before .valid in
     sym (rw (c .if2 .left) at (opening-one n (f .result) (v .result) (f .ensures) (omega (arith, length-before 0 n)) (v .ensures)))
 
-pub check-opening-spec : {M : Type 1} → statement M
-check-opening-spec =
+pub check-open-spec : {M : Type 1} → statement M
+check-open-spec =
     tie.close
     (tie.spec find-requires returns slice-aggregate-valid valid-requires returns-2 returns-3)

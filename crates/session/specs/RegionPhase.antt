@@ -1,0 +1,70 @@
+-- *Region*. Document 01, "Session": "an empty read first if one is due; with no chunk outstanding, close if all is done, else send MemRead64 for
+-- min(4096, rest) at base + done and add one to the memory reads; else hand out min(outstanding, delivery)". f is the width of an entry's numbers.
+use Prim.Native.Nat.{ℕ, suc, _+_, _-_, _%_, _^_, min}
+use mathlib.Core.Bool.{Bool, false, _&&_}
+use mathlib.Core.List.{List}
+use lib.Dec.{ltb, leb, eqb}
+use lib.ListN.{length}
+use Rattle.base.specs.Choice.{pick}
+use Rattle.entry.specs.Entry.{entryOf, filenameOf}
+use Rattle.filename.specs.Filename.{afterOpenCheck}
+use Rattle.filename.specs.declared.NameCheck.{NameCheck}
+use Rattle.filename.specs.declared.NameCheck.the-variants as N
+use Rattle.build.specs.Build.{sizeOf, front}
+use Rattle.build.specs.declared.Request.the-variants as Q
+use Rattle.verdict.specs.Opening.{chunkOf, onUsb}
+use Rattle.verdict.specs.declared.Opening.{Opening}
+use Rattle.session.specs.declared.Region.{Region}
+use Rattle.session.specs.declared.Phase.the-variants as P
+use Rattle.session.specs.declared.Session.{Session}
+use Rattle.session.specs.declared.Answer.the-variants as A
+use Rattle.session.specs.Outcome.{inPhase, reading, ended, region, Outcome, outcome, gives}
+
+-- "On USB a chunk that is a multiple of 512 makes one empty read due when its last byte is handed out, that is, when nothing is outstanding and done is a
+-- multiple of 512". The test is of done: every chunk but a region's last is a multiple of 512, so done is one just where the chunk is
+abbrev pub dueAfter : Opening → ℕ → ℕ → Bool
+dueAfter u outstanding done = onUsb u && eqb outstanding 0 && eqb (done % 512) 0
+
+abbrev pub emptied : Region → Region
+emptied x = region (x .entry) (x .base) (x .len) (x .done) (x .outstanding) false
+
+-- no chunk is outstanding, and the region is begun
+unfoldable pub nextChunk : Session → ℕ → Region → List ℕ → List ℕ → List ℕ → Outcome
+nextChunk s k x t y o =
+    pick (leb (x .len) (x .done))
+    (outcome (gives (inPhase s (P.Between k (suc (x .entry)))) 0 (A.Close (x .entry))) t y o)
+    (let n = min (chunkOf (s .opening)) (x .len - x .done) in
+    outcome
+    (gives (reading s (suc (s .reads)) (P.Region k (region (x .entry) (x .base) (x .len) (x .done) n false))) 0 (A.Send (sizeOf (Q.MemRead64 (x .base + x .done) n))))
+    t y (front (Q.MemRead64 (x .base + x .done) n) o))
+
+-- "in the step after open (nothing done or outstanding, no empty read due)": 21 by the table that is lent in that step, 22 by the base and length that
+-- the session keeps. Nothing is done only there: a memory read asks for at least a byte, and where bytes are outstanding they are handed out first
+abbrev pub begunOf : ℕ → Session → ℕ → Region → List ℕ → List ℕ → List ℕ → NameCheck → Outcome
+begunOf f s k x t y o N.Good =
+    pick (ltb (256 ^ f) (x .base + x .len)) (outcome (gives (ended s) 0 (A.Refused 22)) t y o) (nextChunk s k x t y o)
+begunOf f s k x t y o (N.Refused why) = outcome (gives (ended s) 0 (A.Refused why)) t y o
+
+unfoldable pub askOf : ℕ → Session → ℕ → Region → List ℕ → List ℕ → List ℕ → Outcome
+askOf f s k x t y o =
+    pick (eqb (x .done) 0)
+    (begunOf f s k x t y o (afterOpenCheck (filenameOf f (entryOf f t (x .entry)))))
+    (nextChunk s k x t y o)
+
+-- bytes are outstanding: hand out what came
+unfoldable pub handOf : Session → ℕ → Region → List ℕ → List ℕ → List ℕ → List ℕ → Outcome
+handOf s k x d t y o =
+    pick (eqb (length d) 0)
+    (outcome (gives s 0 A.Go) t y o)
+    (let n = min (x .outstanding) (length d) in
+    let left = x .outstanding - n in
+    let done = x .done + n in
+    outcome
+    (gives (inPhase s (P.Region k (region (x .entry) (x .base) (x .len) done left (dueAfter (s .opening) left done)))) n (A.Bytes n))
+    t y o)
+
+unfoldable pub regionOf : ℕ → Session → ℕ → Region → List ℕ → List ℕ → List ℕ → List ℕ → Outcome
+regionOf f s k x d t y o =
+    pick (x .due)
+    (outcome (gives (inPhase s (P.Region k (emptied x))) 0 A.EmptyRead) t y o)
+    (pick (eqb (x .outstanding) 0) (askOf f s k x t y o) (handOf s k x d t y o))
