@@ -2,7 +2,7 @@
  *
  * No function does input or output, keeps anything, or allocates. A byte string crosses as a pointer and a length; NULL with length 0 is allowed.
  * The caller sees to two things: a pointer has as many bytes as its length, or as its array, says, and what is not const overlaps no other argument.
- * Everything else is defined, whatever the arguments. Refusals are the numbers 1..23 of the requirement.
+ * Everything else is defined, whatever the arguments. Refusals are numbers from 1 to 23, listed below.
  */
 #ifndef WORGESLI_H
 #define WORGESLI_H
@@ -50,6 +50,32 @@ extern "C" {
 #define WORGESLI_CLOSE 6u      /* entry `first` is done */
 #define WORGESLI_FINISHED 7u   /* how: `first`; memory reads: `second` */
 #define WORGESLI_REFUSED 8u    /* why: `first` */
+
+/* refusals: the numbers of the requirement, the first that applies in its order
+ *  1  the image set is malformed, or has more than 64 slots or 4 GiB
+ *  2  the name list is malformed, or has more than 64 names or 4 GiB
+ *  3  the out buffer has fewer than 48 bytes
+ *  4  the session has already ended
+ *  5  the device sent a packet whose length is not from 8 to 4096
+ *  6  the device sent an unknown command
+ *  7  the device sent XML: it runs a loader already
+ *  8  the device sent a command that is not implemented
+ *  9  the device sent a packet too short for its kind, or a mode or command that is none
+ * 10  the device sent a packet that only a host sends
+ * 11  the device sent a packet whose length is not that of its kind
+ * 12  the device asked for an image that is not in the set
+ * 13  the device asked for bytes past an image's end
+ * 14  the device ended an image with an error status
+ * 15  the device is ready for a command, and none was given
+ * 16  the device announced a response longer than the reply buffer
+ * 17  the device announced a memory table longer than 65,536 bytes or the table buffer
+ * 18  a lent buffer is shorter than what the session fills, or the session's numbers are none that a run gives
+ * 19  a region's filename has no zero byte
+ * 20  a region's filename is not UTF-8 before its first zero byte
+ * 21  the 20 bytes of a region's filename are not UTF-8
+ * 22  a region ends above 2^64
+ * 23  the channel was closed before the end
+ */
 
 /* A session. Numbers that its phase does not use are 0. Keep it as it is: other bits are refused (18). */
 typedef struct worgesli_session {
@@ -147,11 +173,14 @@ worgesli_told worgesli_step_in_place(uint32_t head[4], uint64_t numbers[8], uint
 /* The channel was closed. */
 worgesli_stepped worgesli_closed(worgesli_session session);
 
-/* Whether the bits are a session. Where they are none, step and closed give them back, refused 18. */
+/* Whether the bits are a session. Where they are none, a step gives them back, refused 1, 2 or 3 where one of these applies, else 18; closed, 18. */
 bool worgesli_is_session(worgesli_session session);
 
 /* How many bytes to read for the next step: 0 where it needs none. */
 size_t worgesli_wanted(worgesli_session session);
+
+/* The same of a session where it stands, and cheaper: worgesli_wanted_in_place(WORGESLI_PARTS(&session)). */
+size_t worgesli_wanted_in_place(const uint32_t head[4], const uint64_t numbers[8], const uint8_t window[48]);
 
 /* 0: well formed; 1: an image set that is not; 2: a name list that is not. */
 uint32_t worgesli_check_images(const uint8_t *set, size_t set_len);

@@ -73,6 +73,14 @@ static worgesli_stepped step(worgesli_session s, const uint8_t *delivery, size_t
     return r;
 }
 
+/* What is wanted, by value and in place. */
+static size_t wanted(worgesli_session s)
+{
+    size_t n = worgesli_wanted(s);
+    EXPECT(worgesli_wanted_in_place(WORGESLI_PARTS(&s)) == n);
+    return n;
+}
+
 static bool refused(worgesli_stepped r, uint64_t why)
 {
     return r.answer == WORGESLI_REFUSED && r.first == why && r.second == 0 && r.taken == 0;
@@ -107,9 +115,9 @@ static void sip(const uint8_t *bytes, size_t n)
     worgesli_session s = worgesli_open(WORGESLI_WAITING_FOR_IMAGE, WORGESLI_NO_COMMAND, WORGESLI_SERIAL);
     size_t from = 0;
     uint32_t last = WORGESLI_GO;
-    EXPECT(worgesli_wanted(s) == 8);
+    EXPECT(wanted(s) == 8);
     while (last != WORGESLI_FINISHED && last != WORGESLI_REFUSED) {
-        size_t k = worgesli_wanted(s);
+        size_t k = wanted(s);
         EXPECT(0 < k && k <= n - from);
         if (failed)
             return;
@@ -119,22 +127,40 @@ static void sip(const uint8_t *bytes, size_t n)
         s = r.session;
         last = r.answer;
     }
-    EXPECT(last == WORGESLI_FINISHED && from == n && worgesli_wanted(s) == 0);
+    EXPECT(last == WORGESLI_FINISHED && from == n && wanted(s) == 0);
     EXPECT(refused(step(s, NULL, 0), 4));
     EXPECT(refused(worgesli_closed(s), 4));
 }
 
 /* ---- bits that are no session */
 
+/* A step of s, by value and in place, with this image set and names and so many bytes of out. */
+static worgesli_stepped lent(worgesli_session s, const uint8_t *set, const uint8_t *names, size_t out_len)
+{
+    worgesli_session p = s;
+    worgesli_told a = worgesli_step_in_place(WORGESLI_PARTS(&p), none, sizeof none, set, 8, names, 8, table, sizeof table, reply, sizeof reply, out, out_len);
+    worgesli_stepped r = worgesli_step(s, none, sizeof none, set, 8, names, 8, table, sizeof table, reply, sizeof reply, out, out_len);
+    EXPECT(same(p, r.session) && a.taken == r.taken && a.first == r.first && a.second == r.second && a.answer == r.answer);
+    return r;
+}
+
 static void no_session(worgesli_session s)
 {
+    static const uint8_t bad[8] = {65};
+    const struct {
+        const uint8_t *set, *names;
+        size_t out_len;
+        uint64_t why;
+    } rows[] = {{bad, bad, 47, 1}, {bad, none, 48, 1}, {none, bad, 47, 2}, {none, bad, 48, 2}, {none, none, 47, 3}, {none, none, 48, 18}};
     fill();
     EXPECT(!worgesli_is_session(s));
-    worgesli_stepped r = step(s, none, sizeof none);
-    EXPECT(refused(r, 18) && same(r.session, s) && filled());
-    r = worgesli_closed(s);
+    for (size_t i = 0; i < sizeof rows / sizeof rows[0]; i++) {
+        worgesli_stepped r = lent(s, rows[i].set, rows[i].names, rows[i].out_len);
+        EXPECT(refused(r, rows[i].why) && same(r.session, s) && filled());
+    }
+    worgesli_stepped r = worgesli_closed(s);
     EXPECT(refused(r, 18) && same(r.session, s));
-    EXPECT(worgesli_wanted(s) == 0);
+    EXPECT(wanted(s) == 0);
 }
 
 static void no_sessions(void)
@@ -161,6 +187,8 @@ static void no_sessions(void)
     }
     s = good, s.phase = WORGESLI_REGION, s.count = 64, s.base = 1, s.len = 2, s.done = 1, s.outstanding = 1, s.due = 1;
     EXPECT(worgesli_is_session(s));
+    EXPECT(wanted(s) == 0);
+    s.due = 0, EXPECT(wanted(s) == 1);
     s.due = 2, no_session(s);
     memset(&s, 0xff, sizeof s), no_session(s);
 }

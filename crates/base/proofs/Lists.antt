@@ -1,11 +1,11 @@
--- Laws of lists that the kit does not have: stores, and a part of a part. Assumes nothing.
-use mathlib.Core.Path.{_≡_, refl}
+-- Laws of lists that the kit does not have: stores, a part of a part, and beginnings. Assumes nothing.
+use mathlib.Core.Path.{_≡_, refl, sym, ap}
 use mathlib.Core.List.{List, [], _∷_, _++_}
 use Prim.Native.Nat.{ℕ, zero, suc, _+_, _≤_}
 use native.Mathlib.Nat.{add-zero, add-suc, suc-add, zero-add}
 use native.Mathlib.Omega.{arith}
 use lib.ListN.{length, take, drop, set}
-use lib.Seq.{sets, sets-eq, take-take, drop-drop}
+use lib.Seq.{sets, sets-eq, take-take, take-nil, drop-drop}
 
 -- a store of two runs is two stores
 pub sets-append : (xs ys d : List ℕ) (at : ℕ) → sets d at (xs ++ ys) ≡ sets (sets d at xs) (at + length xs) ys
@@ -26,3 +26,16 @@ part-of-first (suc o) l (suc n) (x ∷ xs) h = part-of-first o l n xs (omega ari
 -- and of the n from m on, that part of the list from m on
 pub part-of-part : {A : Type 0} (o l n m : ℕ) (xs : List A) → o + l ≤ n → take l (drop o (take n (drop m xs))) ≡ take l (drop (m + o) xs)
 part-of-part o l n m xs h = rw (part-of-first o l n (drop m xs) h, drop-drop o m xs) refl
+
+-- only the first n of b matter to the first n of b ++ x
+pub take-first : (n : ℕ) (b x : List ℕ) → take n (take n b ++ x) ≡ take n (b ++ x)
+take-first zero b x = refl
+take-first (suc n) [] x = refl
+take-first (suc n) (c ∷ cs) x = ap (λ (r : List ℕ). c ∷ r) (take-first n cs x)
+
+-- two beginnings may be taken in either order
+pub take-comm : (m n : ℕ) (l : List ℕ) → take m (take n l) ≡ take n (take m l)
+take-comm zero n l = sym (take-nil n)
+take-comm (suc m) zero l = refl
+take-comm (suc m) (suc n) [] = refl
+take-comm (suc m) (suc n) (x ∷ xs) = ap (λ (r : List ℕ). x ∷ r) (take-comm m n xs)

@@ -18,6 +18,8 @@ ghost use Prim.Native.Nat.{_≤_};
 ghost use lib.ListN.{length};
 ghost use Rattle.entry.specs.Entry.{entryOf, filenameOf, there};
 ghost use Rattle.filename.specs.Filename.{openCheck};
+ghost use Rattle.base.specs.Told.{Tells};
+ghost use Rattle.session.specs.Answers.{outcomeTold};
 ghost use Rattle.session.specs.Outcome.{outcome};
 ghost use Rattle.session.specs.BetweenPhase.{openOf, betweenOf};
 ghost use Rattle.session.specs.Guard.{betweenStep};
@@ -70,8 +72,8 @@ pub fn between_step(
     reply: &[u8],
     out: &[u8],
 ) -> Stepped
-    ensures { λ r. ⌜ outcome r (now (table .entry)) (now (reply .entry)) (now (out .entry))
-        ≡ betweenStep s k i (now (names .entry)) (now (table .entry)) (now (reply .entry)) (now (out .entry)) ⌝ }
+    ensures { λ r. ⌜ Tells outcomeTold (outcome r (now (table .entry)) (now (reply .entry)) (now (out .entry)))
+        (betweenStep s k i (now (names .entry)) (now (table .entry)) (now (reply .entry)) (now (out .entry))) ⌝ }
 {
     let why = guard(s, between_limit(k, i, table), out);
     if why != 0 {

@@ -6,9 +6,11 @@ use native.Mathlib.Omega.{arith}
 use borrow.Author.Tests.{lt-ltb, le-ltb}
 use lib.ListN.{length, take, drop, length-append, length-drop}
 use lib.Seq.{sets, take-at, drop-at}
+use Rattle.base.specs.Told.{Tells}
 use Rattle.base.proofs.Lists.{sets-front}
+use Rattle.base.proofs.Telling.{tells}
 use Rattle.field.specs.Field.{leBytes}
-use Rattle.build.specs.Build.{fields, bytesOf, sizeOf, front, buildOutcome, buildOf}
+use Rattle.build.specs.Build.{fields, bytesOf, sizeOf, front, buildOutcome, buildTold, buildOf}
 use Rattle.build.specs.declared.Request.{Request}
 use Rattle.build.specs.declared.Request.the-variants as Q
 use Rattle.build.specs.declared.Built.the-variants as T
@@ -59,8 +61,11 @@ pub build-long : (q : Request) (o : List ℕ) → 48 ≤ length o → buildOf q 
 unfolding buildOf
 build-long q o h = simp (le-ltb _ _ h)
 
--- so a packet stored at 0 is what the build leaves
-pub builds : (q : Request) (o e : List ℕ) → 48 ≤ length o → e ≡ sets o 0 (bytesOf q) → buildOutcome (T.Send (sizeOf q)) e ≡ buildOf q o
+-- so a build promises 3 where it is short, and a packet stored at 0 is what it leaves
+pub refuses : (q : Request) (o : List ℕ) → length o < 48 → Tells buildTold (buildOutcome (T.Refused 3) o) (buildOf q o)
+refuses q o h = tells buildTold (sym (build-short q o h))
+
+pub builds : (q : Request) (o e : List ℕ) → 48 ≤ length o → e ≡ sets o 0 (bytesOf q) → Tells buildTold (buildOutcome (T.Send (sizeOf q)) e) (buildOf q o)
 builds q o e h s =
     let m : sizeOf q ≤ 48 = size-most q in
-    ap (buildOutcome (T.Send (sizeOf q))) (s ∙ stored-front q o (omega arith)) ∙ sym (build-long q o h)
+    tells buildTold (ap (buildOutcome (T.Send (sizeOf q))) (s ∙ stored-front q o (omega arith)) ∙ sym (build-long q o h))

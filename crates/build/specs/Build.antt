@@ -6,6 +6,7 @@ use mathlib.Core.List.{List, [], _∷_, _++_}
 use lib.Dec.{ltb}
 use lib.ListN.{length, drop}
 use Rattle.base.specs.Choice.{pick}
+use Rattle.base.specs.Told.{Told, toldSend, toldRefused}
 use Rattle.field.specs.Field.{leBytes}
 use Rattle.command.specs.Command.{modeNumber, commandNumber, kindNumber}
 use Rattle.command.specs.declared.SaharaMode.the-variants as M
@@ -30,15 +31,39 @@ longs = fields 8
 abbrev pub packetBytes : ℕ → List ℕ → List ℕ
 packetBytes cmd body = words (cmd ∷ (8 + length body) ∷ []) ++ body
 
--- the bytes of each packet; 7, 0x0c and 0x0d are numbers of no decoded kind: Reset, SwitchMode, Execute
+-- the command of each packet; 7, 0x0c and 0x0d are numbers of no decoded kind: Reset, SwitchMode, Execute
+abbrev pub requestNumber : Request → ℕ
+requestNumber (Q.HelloResp m) = kindNumber K.HelloResp
+requestNumber Q.Done = kindNumber K.Done
+requestNumber (Q.Execute c) = 0x0d
+requestNumber (Q.ExecuteData c) = kindNumber K.ExecuteData
+requestNumber Q.SwitchMode = 0x0c
+requestNumber Q.Reset = 7
+requestNumber (Q.MemRead64 a k) = kindNumber K.MemRead64
+
+-- the values that a request chooses: a mode, a command, an address and a length
+abbrev pub requestValues : Request → List ℕ
+requestValues (Q.HelloResp m) = modeNumber m ∷ []
+requestValues Q.Done = []
+requestValues (Q.Execute c) = commandNumber c ∷ []
+requestValues (Q.ExecuteData c) = commandNumber c ∷ []
+requestValues Q.SwitchMode = []
+requestValues Q.Reset = []
+requestValues (Q.MemRead64 a k) = a ∷ k ∷ []
+
+-- the body of each packet
+abbrev pub bodyBytes : Request → List ℕ
+bodyBytes (Q.HelloResp m) = words (2 ∷ 1 ∷ 0 ∷ modeNumber m ∷ 0 ∷ 0 ∷ 0 ∷ 0 ∷ 0 ∷ 0 ∷ [])
+bodyBytes Q.Done = []
+bodyBytes (Q.Execute c) = words (commandNumber c ∷ [])
+bodyBytes (Q.ExecuteData c) = words (commandNumber c ∷ [])
+bodyBytes Q.SwitchMode = words (modeNumber M.WaitingForImage ∷ [])
+bodyBytes Q.Reset = []
+bodyBytes (Q.MemRead64 a k) = longs (a ∷ k ∷ [])
+
+-- the bytes of each packet
 unfoldable pub bytesOf : Request → List ℕ
-bytesOf (Q.HelloResp m) = packetBytes (kindNumber K.HelloResp) (words (2 ∷ 1 ∷ 0 ∷ modeNumber m ∷ 0 ∷ 0 ∷ 0 ∷ 0 ∷ 0 ∷ 0 ∷ []))
-bytesOf Q.Done = packetBytes (kindNumber K.Done) []
-bytesOf (Q.Execute c) = packetBytes 0x0d (words (commandNumber c ∷ []))
-bytesOf (Q.ExecuteData c) = packetBytes (kindNumber K.ExecuteData) (words (commandNumber c ∷ []))
-bytesOf Q.SwitchMode = packetBytes 0x0c (words (modeNumber M.WaitingForImage ∷ []))
-bytesOf Q.Reset = packetBytes 7 []
-bytesOf (Q.MemRead64 a k) = packetBytes (kindNumber K.MemRead64) (longs (a ∷ k ∷ []))
+bytesOf q = packetBytes (requestNumber q) (bodyBytes q)
 
 -- the size of each: 01's figures
 abbrev pub sizeOf : Request → ℕ
@@ -50,13 +75,21 @@ sizeOf Q.SwitchMode = 12
 sizeOf Q.Reset = 8
 sizeOf (Q.MemRead64 a k) = 24
 
--- a build's whole buildOutcome: the answer, and the out buffer afterwards
+-- a build's whole outcome: the answer, and the out buffer afterwards
 pub record BuildOutcome : Type 0 where
   pub built : Built
   pub out : List ℕ
 
 abbrev pub buildOutcome : Built → List ℕ → BuildOutcome
 buildOutcome b o = record { built = b; out = o }
+
+-- what a build tells
+abbrev pub builtTold : Built → Told
+builtTold (T.Send k) = toldSend k
+builtTold (T.Refused why) = toldRefused why
+
+abbrev pub buildTold : BuildOutcome → Told
+buildTold x = builtTold (x .built)
 
 -- the out buffer with a packet as its first bytes
 abbrev pub front : Request → List ℕ → List ℕ

@@ -13,7 +13,8 @@ ghost use Prim.Native.Nat.{_+_, _≤_};
 ghost use lib.ListN.{length};
 ghost use lib.Seq.{sets};
 ghost use Rattle.field.specs.Field.{leBytes};
-ghost use Rattle.build.specs.Build.{buildOf, buildOutcome, words};
+ghost use Rattle.base.specs.Told.{Tells};
+ghost use Rattle.build.specs.Build.{buildOf, buildOutcome, buildTold, words};
 
 // What is to be sent.
 pub enum Request {
@@ -91,7 +92,7 @@ fn hello_body(out: &mut [u8], mode: u32)
 
 // HelloResp, 48 bytes: the session's mode, whatever the device offered.
 pub fn sahara_send_hello_rsp(out: &mut [u8], mode: SaharaMode) -> Built
-    ensures { λ r. ⌜ buildOutcome r (now (out .exit)) ≡ buildOf (Request.HelloResp mode) (now (out .entry)) ⌝ }
+    ensures { λ r. ⌜ Tells buildTold (buildOutcome r (now (out .exit))) (buildOf (Request.HelloResp mode) (now (out .entry))) ⌝ }
 {
     if out.len() < LEAST {
         return Built::Refused(3);
@@ -103,7 +104,7 @@ pub fn sahara_send_hello_rsp(out: &mut [u8], mode: SaharaMode) -> Built
 
 // Done, 8 bytes.
 pub fn sahara_send_done(out: &mut [u8]) -> Built
-    ensures { λ r. ⌜ buildOutcome r (now (out .exit)) ≡ buildOf Request.Done (now (out .entry)) ⌝ }
+    ensures { λ r. ⌜ Tells buildTold (buildOutcome r (now (out .exit))) (buildOf Request.Done (now (out .entry))) ⌝ }
 {
     if out.len() < LEAST {
         return Built::Refused(3);
@@ -114,7 +115,7 @@ pub fn sahara_send_done(out: &mut [u8]) -> Built
 
 // Execute, 12 bytes.
 pub fn sahara_send_cmd_exec(out: &mut [u8], command: SaharaCmdModeCmd) -> Built
-    ensures { λ r. ⌜ buildOutcome r (now (out .exit)) ≡ buildOf (Request.Execute command) (now (out .entry)) ⌝ }
+    ensures { λ r. ⌜ Tells buildTold (buildOutcome r (now (out .exit))) (buildOf (Request.Execute command) (now (out .entry))) ⌝ }
 {
     if out.len() < LEAST {
         return Built::Refused(3);
@@ -125,7 +126,7 @@ pub fn sahara_send_cmd_exec(out: &mut [u8], command: SaharaCmdModeCmd) -> Built
 
 // ExecuteData, 12 bytes.
 pub fn sahara_send_cmd_data(out: &mut [u8], command: SaharaCmdModeCmd) -> Built
-    ensures { λ r. ⌜ buildOutcome r (now (out .exit)) ≡ buildOf (Request.ExecuteData command) (now (out .entry)) ⌝ }
+    ensures { λ r. ⌜ Tells buildTold (buildOutcome r (now (out .exit))) (buildOf (Request.ExecuteData command) (now (out .entry))) ⌝ }
 {
     if out.len() < LEAST {
         return Built::Refused(3);
@@ -140,7 +141,7 @@ pub fn sahara_send_cmd_data(out: &mut [u8], command: SaharaCmdModeCmd) -> Built
 
 // SwitchMode to mode 0, 12 bytes.
 pub fn sahara_switch_mode(out: &mut [u8]) -> Built
-    ensures { λ r. ⌜ buildOutcome r (now (out .exit)) ≡ buildOf Request.SwitchMode (now (out .entry)) ⌝ }
+    ensures { λ r. ⌜ Tells buildTold (buildOutcome r (now (out .exit))) (buildOf Request.SwitchMode (now (out .entry))) ⌝ }
 {
     if out.len() < LEAST {
         return Built::Refused(3);
@@ -151,7 +152,7 @@ pub fn sahara_switch_mode(out: &mut [u8]) -> Built
 
 // Reset, 8 bytes.
 pub fn sahara_reset(out: &mut [u8]) -> Built
-    ensures { λ r. ⌜ buildOutcome r (now (out .exit)) ≡ buildOf Request.Reset (now (out .entry)) ⌝ }
+    ensures { λ r. ⌜ Tells buildTold (buildOutcome r (now (out .exit))) (buildOf Request.Reset (now (out .entry))) ⌝ }
 {
     if out.len() < LEAST {
         return Built::Refused(3);
@@ -162,7 +163,7 @@ pub fn sahara_reset(out: &mut [u8]) -> Built
 
 // MemRead64, 24 bytes.
 pub fn sahara_send_mem_read64(out: &mut [u8], addr: u64, len: u64) -> Built
-    ensures { λ r. ⌜ buildOutcome r (now (out .exit)) ≡ buildOf (Request.MemRead64 addr len) (now (out .entry)) ⌝ }
+    ensures { λ r. ⌜ Tells buildTold (buildOutcome r (now (out .exit))) (buildOf (Request.MemRead64 addr len) (now (out .entry))) ⌝ }
 {
     if out.len() < LEAST {
         return Built::Refused(3);
@@ -175,7 +176,7 @@ pub fn sahara_send_mem_read64(out: &mut [u8], addr: u64, len: u64) -> Built
 
 // The packet of a request.
 pub fn build(out: &mut [u8], request: Request) -> Built
-    ensures { λ r. ⌜ buildOutcome r (now (out .exit)) ≡ buildOf request (now (out .entry)) ⌝ }
+    ensures { λ r. ⌜ Tells buildTold (buildOutcome r (now (out .exit))) (buildOf request (now (out .entry))) ⌝ }
 {
     match request {
         Request::HelloResp(mode) => sahara_send_hello_rsp(out, mode),

@@ -3,10 +3,11 @@
 -- length 0 means absent, allowed in an image set and not in a name list. Refusals, "Bundle check": 1 image set malformed, 2 names malformed.
 use Prim.Native.Nat.{ℕ, zero, suc, _+_, _*_}
 use mathlib.Core.Bool.{Bool, true, false}
-use mathlib.Core.List.{List}
+use mathlib.Core.List.{List, [], _∷_}
 use lib.Dec.{ltb, leb, eqb}
 use lib.ListN.{length, drop}
 use Rattle.base.specs.Choice.{pick}
+use Rattle.base.specs.Told.{Told, told, toldGo, toldRefused}
 use Rattle.field.specs.Field.{le}
 use Rattle.bundle.specs.declared.Checked.{Checked}
 use Rattle.bundle.specs.declared.Checked.the-variants as C
@@ -56,6 +57,11 @@ imagesChecked b = pick (wellFormed true b) C.Good (C.Refused 1)
 abbrev pub namesChecked : List ℕ → Checked
 namesChecked b = pick (wellFormed false b) C.Good (C.Refused 2)
 
+-- what a check tells
+abbrev pub checkedTold : Checked → Told
+checkedTold C.Good = toldGo
+checkedTold (C.Refused why) = toldRefused why
+
 -- slot i of any bytes: where it stands among them and how long it is, absent, or missing: no such slot, or it does not lie within the bytes
 -- (of a well-formed bundle, no such slot alone)
 unfoldable pub slotOf : List ℕ → ℕ → Slot
@@ -66,3 +72,9 @@ slotOf b i =
     (pick (absent b i) S.Absent
     (pick (ltb (length b) (dataFrom b + slotStartOf b i + slotLengthOf b i)) S.Missing
     (S.At (dataFrom b + slotStartOf b i) (slotLengthOf b i))))))
+
+-- what a slot tells: 01 has no numbers here, so present 0 with its start and length, absent 1, missing 2
+abbrev pub slotTold : Slot → Told
+slotTold (S.At start k) = told 0 (start ∷ k ∷ [])
+slotTold S.Absent = told 1 []
+slotTold S.Missing = told 2 []

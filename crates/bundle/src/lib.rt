@@ -7,6 +7,7 @@ ghost use Prim.Native.Nat.{_+_, _*_, _<_, _≤_};
 ghost use lib.Dec.{eqb};
 ghost use lib.ListN.{length, drop};
 ghost use Rattle.base.specs.Choice.{pick};
+ghost use Rattle.base.specs.Told.{Tells};
 ghost use Rattle.field.specs.Field.{le};
 ghost use Rattle.bundle.specs.Bundle.{
   countOf,
@@ -18,13 +19,18 @@ ghost use Rattle.bundle.specs.Bundle.{
   wellFormed,
   imagesChecked,
   namesChecked,
+  checkedTold,
   slotOf,
+  slotTold,
 };
 
 pub enum Checked {
     Good,
     Refused(u8),
 }
+
+// A slot's number in a bundle. It is no image ID: only the one-image rule (crate image) makes one of the other.
+pub struct SlotNumber(pub usize);
 
 // A slot: its first byte's place among the bundle's bytes and its length.
 pub enum Slot {
@@ -118,7 +124,7 @@ fn well_formed(b: &[u8], gaps: bool) -> bool
 
 // An image set: slots may be absent.
 pub fn check_images(set: &[u8]) -> Checked
-    ensures { λ r. ⌜ r ≡ imagesChecked (now (set .entry)) ⌝ }
+    ensures { λ r. ⌜ Tells checkedTold r (imagesChecked (now (set .entry))) ⌝ }
 {
     if well_formed(set, true) {
         return Checked::Good;
@@ -128,7 +134,7 @@ pub fn check_images(set: &[u8]) -> Checked
 
 // A name list: no slot may be absent.
 pub fn check_names(names: &[u8]) -> Checked
-    ensures { λ r. ⌜ r ≡ namesChecked (now (names .entry)) ⌝ }
+    ensures { λ r. ⌜ Tells checkedTold r (namesChecked (now (names .entry))) ⌝ }
 {
     if well_formed(names, false) {
         return Checked::Good;
@@ -136,10 +142,11 @@ pub fn check_names(names: &[u8]) -> Checked
     Checked::Refused(2)
 }
 
-// Slot i of any bytes.
-pub fn slot_at(b: &[u8], i: usize) -> Slot
-    ensures { λ r. ⌜ r ≡ slotOf (now (b .entry)) i ⌝ }
+// A slot of any bytes.
+pub fn slot_at(b: &[u8], slot: SlotNumber) -> Slot
+    ensures { λ r. ⌜ Tells slotTold r (slotOf (now (b .entry)) (slot .0)) ⌝ }
 {
+    let i = slot.0;
     if b.len() < 8 {
         return Slot::Missing;
     }
@@ -156,8 +163,9 @@ pub fn slot_at(b: &[u8], i: usize) -> Slot
     if is_absent(start, size) {
         return Slot::Absent;
     }
-    if b.len() < data + start + size {
+    let from = data + start;
+    if b.len() < from + size {
         return Slot::Missing;
     }
-    Slot::At(data + start, size)
+    Slot::At(from, size)
 }

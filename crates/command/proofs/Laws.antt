@@ -15,7 +15,9 @@ use Rattle.command.specs.declared.SaharaCmdModeCmd.{SaharaCmdModeCmd}
 use Rattle.command.specs.declared.SaharaCmdModeCmd.the-variants as E
 use Rattle.command.specs.declared.SaharaCmd.{SaharaCmd}
 use Rattle.command.specs.declared.SaharaCmd.the-variants as K
+use Rattle.command.specs.declared.ModeOf.{ModeOf}
 use Rattle.command.specs.declared.ModeOf.the-variants as MO
+use Rattle.command.specs.declared.CommandOf.{CommandOf}
 use Rattle.command.specs.declared.CommandOf.the-variants as CO
 use Rattle.command.specs.declared.Class.{Class}
 use Rattle.command.specs.declared.Class.the-variants as C
@@ -34,6 +36,21 @@ command-back E.Nop = refl
 command-back E.ReadSerialNum = refl
 command-back E.ReadHwId = refl
 command-back E.ReadOemKeyHash = refl
+
+-- so each is found by its number, some other by any other number
+abbrev pub modeIs : ModeOf → SaharaMode
+modeIs (MO.Is m) = m
+modeIs MO.Bad = M.Command
+
+abbrev pub commandIs : CommandOf → SaharaCmdModeCmd
+commandIs (CO.Is c) = c
+commandIs CO.Bad = E.Nop
+
+pub mode-again : (m : SaharaMode) → modeIs (modeOf (modeNumber m)) ≡ m
+mode-again m = rw (mode-back m) refl
+
+pub command-again : (c : SaharaCmdModeCmd) → commandIs (commandOf (commandNumber c)) ≡ c
+command-again c = rw (command-back c) refl
 
 -- a kind's number is of that kind's class
 pub kind-back : (k : SaharaCmd) → classOf (kindNumber k) ≡ C.Kind k

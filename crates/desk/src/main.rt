@@ -1,5 +1,7 @@
 // Reads standard input as deliveries of 4,096 bytes, each used up before the next is read, and prints a line a step: bytes taken, answer, number.
 use command::SaharaMode;
+use feed::Feed;
+use feed::Turned;
 use session::Answer;
 use session::Session;
 use verdict::ExecCommand;
@@ -7,13 +9,6 @@ use verdict::QdlBackend;
 ghost use mathlib.Core.Path.{_≡_};
 ghost use Prim.Native.Nat.{_≤_};
 ghost use lib.ListN.{length};
-
-// What is left of the delivery, and whether the input is over.
-struct Feed {
-    from: usize,
-    to: usize,
-    over: bool,
-}
 
 // A line; true.
 fn line(taken: usize, word: &[u8], number: u64) -> bool {
@@ -51,10 +46,7 @@ fn refill(delivery: &mut [u8], f: Feed) -> Feed
     requires { ⌜ (f .from ≤ f .to) × (f .to ≤ length (now delivery)) ⌝ }
     ensures { λ r. ⌜ (r .from ≤ r .to) × (r .to ≤ length (now (delivery .exit))) ⌝ }
 {
-    if f.from < f.to {
-        return f;
-    }
-    if f.over {
+    if !feed::is_due(f) {
         return f;
     }
     let n = io::read_full(0, delivery);
@@ -63,31 +55,6 @@ fn refill(delivery: &mut [u8], f: Feed) -> Feed
         to: n,
         over: n == 0,
     }
-}
-
-fn least(a: usize, b: usize) -> usize
-    ensures { λ r. ⌜ (r ≤ a) × (r ≤ b) ⌝ }
-{
-    if a < b { a } else { b }
-}
-
-// What is left after a step.
-fn moved(f: Feed, taken: usize) -> Feed
-    requires { ⌜ f .from ≤ f .to ⌝ }
-    ensures { λ r. ⌜ (r .from ≤ r .to) × (r .to ≡ f .to) ⌝ }
-{
-    Feed {
-        from: f.from + least(taken, f.to - f.from),
-        to: f.to,
-        over: f.over,
-    }
-}
-
-// A step, and whether the session goes on.
-struct Turned {
-    session: Session,
-    feed: Feed,
-    more: bool,
 }
 
 fn closed(s: Session, f: Feed) -> Turned
@@ -120,11 +87,11 @@ fn turn(
     let r = host::step(s, &delivery[from..to], none, none, table, reply, out);
     let next = r.session;
     let a = r.answer;
-    let feed = moved(f, r.taken);
+    let left = feed::left_after(f, r.taken);
     let more = told(r.taken, a);
     Turned {
         session: next,
-        feed: feed,
+        feed: left,
         more: more,
     }
 }
@@ -141,10 +108,8 @@ fn turn_or_close(
     requires { ⌜ (f .from ≤ f .to) × (f .to ≤ length (now delivery)) ⌝ }
     ensures { λ r. ⌜ (r .feed .from ≤ r .feed .to) × (r .feed .to ≡ f .to) ⌝ }
 {
-    if f.over {
-        if host::needs_bytes(s) {
-            return closed(s, f);
-        }
+    if feed::closes(f, s) {
+        return closed(s, f);
     }
     turn(s, f, delivery, table, reply, out)
 }
@@ -155,11 +120,7 @@ fn run(delivery: &mut [u8], table: &mut [u8], reply: &mut [u8], out: &mut [u8]) 
         ExecCommand::None,
         QdlBackend::Serial,
     );
-    let mut f = Feed {
-        from: 0,
-        to: 0,
-        over: false,
-    };
+    let mut f = feed::begin();
     let mut turns: u64 = 0;
     while turns < 18446744073709551615 {
         turns += 1;

@@ -5,7 +5,7 @@ use mathlib.Core.Bool.{true, false, _||_}
 use mathlib.Core.List.{List, [], _∷_, _++_, append-nil}
 use Prim.Native.Nat.{ℕ, zero, suc, _+_, _-_, _*_, _/_, _^_, _≤_, _<_}
 use native.Mathlib.Omega.{arith}
-use native.Mathlib.Nat.{add-zero, sub-zero, mul-comm, le-div-iff-mul-le}
+use native.Mathlib.Nat.{add-zero, sub-zero}
 use lib.Dec.{ltb}
 use lib.ListN.{length, take}
 use borrow.Author.Tests.{ltb-true, ltb-false, le-ltb, le-leb}
@@ -22,9 +22,9 @@ use Rattle.session.specs.declared.Answer.the-variants as A
 use Rattle.session.specs.Outcome.{Outcome, outcome, gives, inPhase, ended, region}
 use Rattle.session.specs.BetweenPhase.{betweenOf}
 use Rattle.session.specs.Limits.{readsLimit, phaseLimit}
-use Rattle.fetch.specs.Plain.{Report, opened, closed, finished, chunks, chunkCount, chosen, regions}
-use Rattle.fetch.specs.Device.{Setting}
+use Rattle.fetch.specs.Plain.{Report, opened, closed, finished, Debug, chunks, chunkCount, chosen, regions, Setting}
 use Rattle.fetch.specs.Claim.{Dumpable, regionBytes, regionReads}
+use Rattle.fetch.proofs.Basics.{entry-end}
 use Rattle.fetch.proofs.Chunk.{chunk-good, count-most}
 use Rattle.fetch.proofs.Ghost.{Ghost}
 use Rattle.fetch.proofs.Device.{no-bytes}
@@ -35,9 +35,7 @@ use Rattle.fetch.proofs.Invariant.{tableAt, toCome, GoodBetween, dueBet
 module _ (f : ℕ) (b t : List ℕ) (n : ℕ) (e : take n b ≡ t) (l : n ≤ length b) where
   -- an entry's end
   ends : (i : ℕ) → i < n / entrySize f → entrySize f * (i + 1) ≤ n
-  ends i h =
-      let m : i + 1 ≤ n / entrySize f = omega arith in
-      rw (mul-comm (entrySize f) (i + 1)) (le-div-iff-mul-le {k = entrySize f} (omega arith) .0 m)
+  ends i h = entry-end f n i h
 
   pub entry-same : (i : ℕ) → i < n / entrySize f → entryOf f b i ≡ entryOf f t i
   entry-same i h = sym (entryOf-take f b i n (ends i h)) ∙ ap (λ (x : List ℕ). entryOf f x i) e
@@ -133,33 +131,33 @@ unfolding cost regionBytes regionReads
 cost-cons u t i is = rw sub-zero (omega arith)
 
 -- the premise on the selected regions
-abbrev pub Safe : Setting → ℕ → ℕ → Type 0
-Safe c a n =
-    (i : ℕ) → i < n / entrySize 8 → selected 8 (c .names) (entryOf 8 (tableAt c a n) i) ≡ true → Dumpable 8 (entryOf 8 (tableAt c a n) i)
+abbrev pub Safe : Setting → Debug → Type 0
+Safe c dbg =
+    (i : ℕ) → i < (dbg .size) / entrySize 8 → selected 8 (c .names) (entryOf 8 (tableAt c dbg) i) ≡ true → Dumpable 8 (entryOf 8 (tableAt c dbg) i)
 
-module _ (c : Setting) (a n k i : ℕ) (w : Ghost) (g : GoodBetween c a n k i w) where
+module _ (c : Setting) (dbg : Debug) (k i : ℕ) (w : Ghost) (g : GoodBetween c dbg k i w) where
   -- 1,024 entries of at most 2^53 chunks each, and the table
   pub limits : (readsLimit (w .session) || phaseLimit 8 (w .session .window) (P.Between k i) (w .table) (w .reply)) ≡ false
   limits =
       rw (
         g .declared,
         le-ltb (2 ^ 63 + 1) (w .session .reads) (omega (arith, g .fits, g .entry, g .reads)),
-        le-ltb (length (w .table)) n (omega (arith, g .fits)),
-        le-ltb (n / entrySize 8) i (g .entry),
+        le-ltb (length (w .table)) (dbg .size) (omega (arith, g .fits)),
+        le-ltb ((dbg .size) / entrySize 8) i (g .entry),
       )
       refl
 
   -- ---- a step: it takes nothing of its delivery
 
-  module _ (d : List ℕ) (safe : Safe c a n) where
+  module _ (d : List ℕ) (safe : Safe c dbg) where
     abbrev Keeps : Outcome → Type 0
-    Keeps r = Kept c a n (dueBetween c a n i w) (boundBetween c a n i w) w d r
+    Keeps r = Kept c dbg (dueBetween c dbg i w) (boundBetween c dbg i w) w d r
 
     abbrev t : List ℕ
-    t = tableAt c a n
+    t = tableAt c dbg
 
     abbrev left : ℕ
-    left = n / entrySize 8 - i
+    left = (dbg .size) / entrySize 8 - i
 
     abbrev found : ℕ
     found = nextOf 8 (c .names) (w .table) left i
@@ -167,22 +165,22 @@ module _ (c : Setting) (a n k i : ℕ) (w : Ghost) (g : GoodBetween c a n k i w)
     abbrev e : List ℕ
     e = entryOf 8 t found
 
-    room-for : n ≤ length (w .table)
+    room-for : (dbg .size) ≤ length (w .table)
     room-for = omega (arith, g .fits)
 
-    entries : i + left ≡ n / entrySize 8
+    entries : i + left ≡ (dbg .size) / entrySize 8
     entries = omega (arith, g .entry)
 
-    here : found < n / entrySize 8 → Hit 8 (w .table) t n (g .table) room-for (c .names) left i
-    here h = hit 8 (w .table) t n (g .table) room-for (c .names) left i (omega (arith, entries)) (rw entries h)
+    here : found < (dbg .size) / entrySize 8 → Hit 8 (w .table) t (dbg .size) (g .table) room-for (c .names) left i
+    here h = hit 8 (w .table) t (dbg .size) (g .table) room-for (c .names) left i (omega (arith, entries)) (rw entries h)
 
     -- a selected entry is opened
-    enter : found < n / entrySize 8
+    enter : found < (dbg .size) / entrySize 8
         → Keeps
-        (outcome (gives (inPhase (w .session) (P.Region n (region found (baseOf 8 e) (lengthOf 8 e) 0 0 false))) 0 (A.Open found))
+        (outcome (gives (inPhase (w .session) (P.Region (dbg .size) (region found (baseOf 8 e) (lengthOf 8 e) 0 0 false))) 0 (A.Open found))
         (w .table) (w .reply) (w .out))
     enter h =
-        let f : toCome c a n i ≡ found ∷ toCome c a n (suc found) = rw entries at (here h .first) in
+        let f : toCome c dbg i ≡ found ∷ toCome c dbg (suc found) = rw entries at (here h .first) in
         let y : Dumpable 8 e = safe found h (here h .chose) in
         let u : Opening = w .session .opening in
         let m : chunkCount u (lengthOf 8 e) ≤ 2 ^ 53 = count-most u (chunk-good u) (lengthOf 8 e) (omega (arith, y .top)) in
@@ -196,7 +194,7 @@ module _ (c : Setting) (a n k i : ℕ) (w : Ghost) (g : GoodBetween c a n k i w)
                 queue = rw (append-nil, no-bytes) (g .queue);
                 entry = h;
                 reads = rw (sub-zero (lengthOf 8 e)) (omega (arith, m, g .reads, here h .later));
-                named = rw (entry-same 8 (w .table) t n (g .table) room-for found h) (sound-after-open (filenameOf 8 e) (y .named));
+                named = rw (entry-same 8 (w .table) t (dbg .size) (g .table) room-for found h) (sound-after-open (filenameOf 8 e) (y .named));
                 within = omega arith;
                 top = y .top;
                 cut = λ p. refl;
@@ -207,20 +205,20 @@ module _ (c : Setting) (a n k i : ℕ) (w : Ghost) (g : GoodBetween c a n k i w)
         }
 
     -- none is left
-    finish : n / entrySize 8 ≤ found
+    finish : (dbg .size) / entrySize 8 ≤ found
         → Keeps (outcome (gives (ended (w .session)) 0 (A.Finished 3 (w .session .reads))) (w .table) (w .reply) (w .out))
     finish h =
-        let f : toCome c a n i ≡ [] =
-        miss 8 (w .table) t n (g .table) room-for (c .names) left i (omega (arith, entries)) (rw entries h) in
+        let f : toCome c dbg i ≡ [] =
+        miss 8 (w .table) t (dbg .size) (g .table) room-for (c .names) left i (omega (arith, entries)) (rw entries h) in
         record { good = g .out; told = rw f (regions-end 8 (w .session .opening) (c .mem) t _); fell = omega arith }
 
     pub between : Keeps (outcome (betweenOf 8 (w .session) k i (c .names) (w .table)) (w .table) (w .reply) (w .out))
     unfolding betweenOf
     between =
-        by-test (ltb found (n / entrySize 8))
+        by-test (ltb found ((dbg .size) / entrySize 8))
         (λ m.
-        let h : found < n / entrySize 8 = ltb-true _ _ m in
-        let f : entryOf 8 (w .table) found ≡ e = entry-same 8 (w .table) t n (g .table) room-for found h in
+        let h : found < (dbg .size) / entrySize 8 = ltb-true _ _ m in
+        let f : entryOf 8 (w .table) found ≡ e = entry-same 8 (w .table) t (dbg .size) (g .table) room-for found h in
         let y : openCheck (filenameOf 8 e) ≡ N.Good = sound-open (filenameOf 8 e) (safe found h (here h .chose) .named) in
-        via c a n (rw (g .declared, m, f, y) refl) (enter h))
-        (λ m. via c a n (rw (g .declared, m) refl) (finish (ltb-false _ _ m)))
+        via c dbg (rw (g .declared, m, f, y) refl) (enter h))
+        (λ m. via c dbg (rw (g .declared, m) refl) (finish (ltb-false _ _ m)))

@@ -1,6 +1,6 @@
 -- The counter of memory reads: after any list of steps from the opening, fair or not, it is the number of MemRead64 packets that the list reports,
 -- and an end comes last and carries it. By the branches of a step, then by induction on the list. Assumes nothing.
-use mathlib.Core.Path.{_≡_, refl, sym, ap, _∙_}
+use mathlib.Core.Path.{_≡_, refl, sym, ap, subst, _∙_}
 use mathlib.Core.Bool.{Bool, true, false, not, _||_}
 use mathlib.Core.List.{List, [], _∷_, _++_, map}
 use Prim.Native.Nat.{ℕ, _+_, _-_, _^_, min}
@@ -8,7 +8,6 @@ use native.Mathlib.Omega.{arith}
 use native.Mathlib.Nat.{add-zero, add-assoc, zero-add}
 use lib.Dec.{eqb, ltb, leb}
 use lib.ListN.{length, take, drop}
-use borrow.Author.Tests.{not-false}
 use Rattle.bundle.specs.Bundle.{wellFormed}
 use Rattle.entry.specs.Entry.{entryOf, filenameOf}
 use Rattle.filename.specs.Filename.{openCheck, afterOpenCheck}
@@ -20,7 +19,6 @@ use Rattle.build.specs.Build.{sizeOf, front}
 use Rattle.build.specs.declared.Request.{Request}
 use Rattle.build.specs.declared.Request.the-variants as Q
 use Rattle.verdict.specs.Verdict.{verdictOf}
-use Rattle.verdict.specs.declared.Opening.{Opening}
 use Rattle.verdict.specs.declared.Verdict.{Verdict}
 use Rattle.verdict.specs.declared.Verdict.the-variants as W
 use Rattle.session.specs.declared.Filling.{Filling}
@@ -38,12 +36,14 @@ use Rattle.session.specs.RegionPhase.{nextChunk, begunOf, askOf, handOf, region
 use Rattle.session.specs.Limits.{limitOf}
 use Rattle.session.specs.Step.{onPhase, stepOf}
 use Rattle.steps.specs.Steps.{one, final}
-use Rattle.fetch.specs.Plain.{Report, sent, image, opened, byte, emptyRead, closed, finished}
-use Rattle.fetch.specs.Device.{Setting, World, Turn, own, other, toldBy, next, reported, start}
+use Rattle.fetch.specs.Plain.{Report, sent, image, opened, byte, emptyRead, closed, finished, Setting}
+use Rattle.fetch.specs.Device.{definitions, Lent, lent, delivered, World, start, next, reported}
 use Rattle.fetch.specs.Claim.{reports}
-use Rattle.fetch.proofs.Basics.{split}
+use Rattle.fetch.specs.Meaning.{readIn, readsIn}
+use Rattle.base.proofs.Tests.{split, differ}
+use Rattle.fetch.proofs.Ghost.{toldBy}
 use Rattle.build.proofs.Laws.{take-front}
-use Rattle.fetch.proofs.Sent.{asks, asks-read, readIn, readsIn, reads-append, reads-bytes}
+use Rattle.fetch.proofs.Sent.{asks, asks-read, reads-append, reads-bytes}
 use Rattle.fetch.proofs.Verdict.{Sane, sane}
 
 -- ---- what a list of reports tells, k memory reads having been sent before it: an end carries those sent before it, and comes last
@@ -137,9 +137,6 @@ record Counted (s : Session) (d set : List ℕ) (r : Outcome) : Type 0 where
   pub calm : Calm (r .stepped .session)
   pub ends : hasEnd (toldBy r d set) ≡ true → isEnded (r .stepped .session .phase) ≡ true
 
-differ : {A : Type 0} → false ≡ true → A
-differ e = absurd (let z : _≡_ {A = ℕ} 0 1 = cc in omega arith)
-
 module _ (s : Session) (d set : List ℕ) where
   abbrev Counts : Outcome → Type 0
   Counts r = Counted s d set r
@@ -172,8 +169,8 @@ module _ (s : Session) (d set : List ℕ) where
 
   -- ---- packet: no memory read was sent before
 
-  module _ (good : wellFormed true set ≡ true) (none : s .reads ≡ 0) (t y o : List ℕ) where
-    acted-counts : (n : ℕ) (w : List ℕ) (v : Verdict) → Sane (length t) v → Counts (acted s n w t y o v)
+  module _ (none : s .reads ≡ 0) (t y o : List ℕ) where
+    acted-counts : (n : ℕ) (w : List ℕ) (v : Verdict) → Sane set (length t) v → Counts (acted s n w t y o v)
     acted-counts n w (W.Reply q) h = sends q _ n t y o (rw (h, add-zero) refl) none
     acted-counts n w (W.Image x k) h = single (image (take k (drop x set))) _ n (A.Image x k) t y o refl none refl refl refl tt
     acted-counts n w W.Pass h = silent _ n A.Go t y o refl none refl
@@ -195,7 +192,7 @@ module _ (s : Session) (d set : List ℕ) where
         split Counts (ltb (h + n) (lengthField w)) (λ i. silent _ n A.Go t y o refl none refl)
         (λ i.
         acted-counts n v (verdictOf (s .opening) set (length t) (length y) (take (lengthField v) v))
-        (sane (s .opening) set (length t) (length y) good (take (lengthField v) v)))))
+        (sane (s .opening) set (length t) (length y) (take (lengthField v) v)))))
 
   -- ---- the other phases
 
@@ -265,14 +262,14 @@ module _ (s : Session) (d set : List ℕ) where
 
     -- ---- the step
 
-    phase-counts : wellFormed true set ≡ true → (p : Phase) → calmIn p (s .reads) → Counts (onPhase s p d set names t y o)
-    phase-counts g (P.Packet h) e = packet-counts g e t y o h
-    phase-counts g (P.Response x) e = response-counts x
-    phase-counts g (P.Switched k) e = switched-counts k
-    phase-counts g (P.Table x) e = table-counts x
-    phase-counts g (P.Between k i) e = between-counts k i
-    phase-counts g (P.Region k x) e = region-counts k x
-    phase-counts g (P.Ended k) e = silent s 0 (A.Refused 4) t y o refl calm refl
+    phase-counts : (p : Phase) → calmIn p (s .reads) → Counts (onPhase s p d set names t y o)
+    phase-counts (P.Packet h) e = packet-counts e t y o h
+    phase-counts (P.Response x) e = response-counts x
+    phase-counts (P.Switched k) e = switched-counts k
+    phase-counts (P.Table x) e = table-counts x
+    phase-counts (P.Between k i) e = between-counts k i
+    phase-counts (P.Region k x) e = region-counts k x
+    phase-counts (P.Ended k) e = silent s 0 (A.Refused 4) t y o refl calm refl
 
     untouched-counts : (why : ℕ) → Counts (outcome (gives s 0 (A.Refused why)) t y o)
     untouched-counts why = silent s 0 (A.Refused why) t y o refl calm refl
@@ -287,7 +284,7 @@ module _ (s : Session) (d set : List ℕ) where
         split Counts (ltb (length o) 48) (λ i. untouched-counts 3)
         (λ i.
         split Counts (isEnded (s .phase)) (λ j. untouched-counts 4)
-        (λ j. split Counts (limitOf s t y) (λ k. untouched-counts 18) (λ k. phase-counts (not-false _ e) (s .phase) calm)))))
+        (λ j. split Counts (limitOf s t y) (λ k. untouched-counts 18) (λ k. phase-counts (s .phase) calm)))))
 
     -- an ended session stays as it is, and nothing is reported
     abbrev Over : Outcome → Type 0
@@ -303,64 +300,75 @@ module _ (s : Session) (d set : List ℕ) where
         split Over (ltb (length o) 48) (λ i. (refl, refl))
         (λ i. split Over (isEnded (s .phase)) (λ j. (refl, refl)) (λ j. differ (sym j ∙ h)))))
 
--- ---- any step of a list: lent the run's own things, or anything
-
-record Turned (c : Setting) (w : World) (i : Turn) : Type 0 where
-  pub reads : next c w i .session .reads ≡ w .session .reads + readsIn (reported c w i)
-  pub told : Told (w .session .reads) (reported c w i)
-  pub calm : Calm (next c w i .session)
-  pub ends : hasEnd (reported c w i) ≡ true → isEnded (next c w i .session .phase) ≡ true
+-- ---- any step of a list, whatever it is lent
 
 module _ (c : Setting) where
-  turned : (w : World) (i : Turn) → Calm (w .session) → Turned c w i
-  turned w (own d) k =
-      let r = step-counts (w .session) d (c .set) k (c .names) (w .table) (w .reply) (w .out) in
-      record { reads = r .reads; told = r .told; calm = r .calm; ends = r .ends }
-  turned w (other d x z t y o) k =
-      let r = step-counts (w .session) d x k z t y o in
+  abbrev after : World Session → Lent → World Session
+  after = next definitions c
+
+  abbrev says : World Session → Lent → List Report
+  says = reported definitions c
+
+  record Turned (w : World Session) (l : Lent) : Type 0 where
+    pub reads : after w l .state .reads ≡ w .state .reads + readsIn (says w l)
+    pub told : Told (w .state .reads) (says w l)
+    pub calm : Calm (after w l .state)
+    pub ends : hasEnd (says w l) ≡ true → isEnded (after w l .state .phase) ≡ true
+
+  turned : (w : World Session) (l : Lent) → Calm (w .state) → Turned w l
+  turned w l k =
+      let r =
+      step-counts (w .state) (delivered (l .delivery) (w .queue)) (lent (l .set) (c .set)) k (lent (l .names) (c .names)) (lent (l .table) (w .table))
+      (lent (l .reply) (w .reply)) (lent (l .out) (w .out)) in
       record { reads = r .reads; told = r .told; calm = r .calm; ends = r .ends }
 
-  counts-from : (is : List Turn) (w : World) → Calm (w .session)
-      → final (next c) w is .session .reads ≡ w .session .reads + readsIn (reports c w is)
+  counts-from : (ls : List Lent) (w : World Session) → Calm (w .state)
+      → final after w ls .state .reads ≡ w .state .reads + readsIn (reports definitions c w ls)
   unfolding readsIn
-  counts-from [] w k = sym (add-zero (w .session .reads))
-  counts-from (i ∷ is) w k =
-      let r = turned w i k in
-      counts-from is (next c w i) (r .calm)
-      ∙ rw (r .reads, reads-append (reported c w i) (reports c (next c w i) is), add-assoc) refl
+  counts-from [] w k = sym (add-zero (w .state .reads))
+  counts-from (l ∷ ls) w k =
+      let r = turned w l k in
+      let rest : List Report = reports definitions c (after w l) ls in
+      counts-from ls (after w l) (r .calm) ∙ ap (λ (n : ℕ). n + readsIn rest) (r .reads)
+      ∙ add-assoc (w .state .reads) (readsIn (says w l)) (readsIn rest) ∙ ap (λ (n : ℕ). w .state .reads + n) (sym (reads-append (says w l) rest))
 
-  turned-over : (w : World) (i : Turn) → Calm (w .session) → isEnded (w .session .phase) ≡ true
-      → (next c w i .session ≡ w .session) × (reported c w i ≡ [])
-  turned-over w (own d) k h = step-over (w .session) d (c .set) k (c .names) (w .table) (w .reply) (w .out) h
-  turned-over w (other d x z t y o) k h = step-over (w .session) d x k z t y o h
+  turned-over : (w : World Session) (l : Lent) → Calm (w .state) → isEnded (w .state .phase) ≡ true
+      → (after w l .state ≡ w .state) × (says w l ≡ [])
+  turned-over w l k h =
+      step-over (w .state) (delivered (l .delivery) (w .queue)) (lent (l .set) (c .set)) k (lent (l .names) (c .names)) (lent (l .table) (w .table))
+      (lent (l .reply) (w .reply)) (lent (l .out) (w .out)) h
 
-  all-over : (is : List Turn) (w : World) → Calm (w .session) → isEnded (w .session .phase) ≡ true → reports c w is ≡ []
+  all-over : (ls : List Lent) (w : World Session) → Calm (w .state) → isEnded (w .state .phase) ≡ true → reports definitions c w ls ≡ []
   all-over [] w k h = refl
-  all-over (i ∷ is) w k h =
-      let o = turned-over w i k h in
-      rw (o .1) (all-over is (next c w i) (rw (o .0) k) (rw (o .0) h))
+  all-over (l ∷ ls) w k h =
+      let o = turned-over w l k h in
+      rw (o .1) (all-over ls (after w l) (rw (o .0) k) (rw (o .0) h))
 
-  told-from : (is : List Turn) (w : World) → Calm (w .session) → Told (w .session .reads) (reports c w is)
+  told-from : (ls : List Lent) (w : World Session) → Calm (w .state) → Told (w .state .reads) (reports definitions c w ls)
   told-from [] w k = tt
-  told-from (i ∷ is) w k =
-      let r = turned w i k in
-      told-append (reported c w i) (reports c (next c w i) is) (w .session .reads) (r .told) (rw (r .reads) at (told-from is (next c w i) (r .calm)))
-      (λ e. all-over is (next c w i) (r .calm) (r .ends e))
+  told-from (l ∷ ls) w k =
+      let r = turned w l k in
+      let rest : List Report = reports definitions c (after w l) ls in
+      told-append (says w l) rest (w .state .reads) (r .told) (subst (λ (n : ℕ). Told n rest) (r .reads) (told-from ls (after w l) (r .calm)))
+      (λ e. all-over ls (after w l) (r .calm) (r .ends e))
 
-  module _ (u : Opening) (t y o s : List ℕ) (is : List Turn) where
+  module _ (ls : List Lent) where
+    abbrev all : List Report
+    all = reports definitions c (start definitions c) ls
+
     -- the counter is the number of memory reads that were sent since the session was opened
-    pub counter : final (next c) (start u t y o s) is .session .reads ≡ readsIn (reports c (start u t y o s) is)
-    counter = counts-from is (start u t y o s) refl ∙ zero-add (readsIn (reports c (start u t y o s) is))
+    pub counter : final after (start definitions c) ls .state .reads ≡ readsIn all
+    counter = counts-from ls (start definitions c) refl ∙ zero-add (readsIn all)
 
     -- an end comes last, with the number of those sent before it
-    pub end-counts : (l m : List Report) (how r : ℕ) → reports c (start u t y o s) is ≡ l ++ (finished how r ∷ m) → (r ≡ readsIn l) × (m ≡ [])
+    pub end-counts : (l m : List Report) (how r : ℕ) → all ≡ l ++ (finished how r ∷ m) → (r ≡ readsIn l) × (m ≡ [])
     end-counts l m how r e =
-        let y = told-end l m 0 how r (rw e at (told-from is (start u t y o s) refl)) in
+        let y = told-end l m 0 how r (rw e at (told-from ls (start definitions c) refl)) in
         (y .0 ∙ zero-add (readsIn l), y .1)
 
     -- so it carries the counter
-    pub end-reads : (l m : List Report) (how r : ℕ) → reports c (start u t y o s) is ≡ l ++ (finished how r ∷ m)
-        → r ≡ final (next c) (start u t y o s) is .session .reads
+    pub end-reads : (l m : List Report) (how r : ℕ) → all ≡ l ++ (finished how r ∷ m)
+        → r ≡ final after (start definitions c) ls .state .reads
     unfolding readsIn
     end-reads l m how r e =
         let y = end-counts l m how r e in

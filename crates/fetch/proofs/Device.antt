@@ -13,9 +13,9 @@ use Rattle.field.proofs.Laws.{le-of-bytes}
 use Rattle.packet.specs.Packet.{long}
 use Rattle.build.specs.Build.{fields, bytesOf}
 use Rattle.build.specs.declared.Request.the-variants as Q
-use Rattle.fetch.specs.Plain.{bytesAt}
-use Rattle.fetch.specs.Device.{served, Delivered}
-use Rattle.fetch.proofs.Sent.{isRead, asks-read}
+use Rattle.fetch.specs.Plain.{isRead, bytesAt}
+use Rattle.fetch.specs.Device.{served}
+use Rattle.fetch.proofs.Sent.{asks-read}
 
 pub no-bytes : (mem : ℕ → ℕ) (at : ℕ) → bytesAt mem at 0 ≡ []
 unfolding bytesAt
@@ -74,11 +74,23 @@ served-read mem a k h l =
     rw (asks-read (Q.MemRead64 a k), read-length a k (omega arith))
     (at-address mem a (long (bytesOf (Q.MemRead64 a k)) 0) k (256 ^ 8) h (read-address a k))
 
--- ---- deliveries
+-- ---- deliveries: beginnings of the queue, empty only when nothing is queued
 
-pub no-longer : (d q : List ℕ) → Delivered d q → length d ≤ length q
+pub record Came (d q : List ℕ) : Type 0 where
+  pub begins : d ≡ take (length d) q
+  pub some : 0 < length q → 0 < length d
+
+take-again : (m : ℕ) (q : List ℕ) → take m q ≡ take (length (take m q)) q
+take-again zero q = refl
+take-again (suc m) [] = refl
+take-again (suc m) (x ∷ xs) = ap (λ (l : List ℕ). x ∷ l) (take-again m xs)
+
+pub first-came : (m : ℕ) (q : List ℕ) → (0 < length q → 0 < m) → Came (take m q) q
+first-came m q h = record { begins = take-again m q; some = λ l. omega (arith, h l, length-take m q) }
+
+pub no-longer : (d q : List ℕ) → Came d q → length d ≤ length q
 no-longer d q v = omega (arith, ap length (v .begins), length-take (length d) q)
 
 -- the first bytes of a delivery are those of the queue
-pub first-of : (d q : List ℕ) (k : ℕ) → Delivered d q → k ≤ length d → take k d ≡ take k q
+pub first-of : (d q : List ℕ) (k : ℕ) → Came d q → k ≤ length d → take k d ≡ take k q
 first-of d q k v h = ap (take k) (v .begins) ∙ take-take k (length d) q h

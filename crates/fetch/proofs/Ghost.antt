@@ -1,17 +1,15 @@
--- The run with one thing more, for the proof alone: the bytes of the packet that is held in part. The session's window keeps only their first 48.
--- Assumes nothing.
-use mathlib.Core.Path.{_≡_, refl}
+-- The run of the definitions' host with one thing more, for the proof alone: the bytes of the packet that is held in part. The session's window keeps
+-- only their first 48. Assumes nothing.
 use mathlib.Core.List.{List, [], _++_}
 use Prim.Native.Nat.{ℕ}
 use lib.Dec.{eqb}
 use lib.ListN.{take, drop}
 use Rattle.base.specs.Choice.{pick}
-use Rattle.session.specs.declared.Phase.{Phase}
-use Rattle.session.specs.declared.Phase.the-variants as P
 use Rattle.session.specs.declared.Session.{Session}
-use Rattle.session.specs.Outcome.{Outcome}
+use Rattle.session.specs.Outcome.{heldIn, Outcome}
 use Rattle.session.specs.Step.{stepOf}
-use Rattle.fetch.specs.Device.{Setting, World, Turn, own, other, queued, stepOwn, next}
+use Rattle.fetch.specs.Plain.{Report, Setting}
+use Rattle.fetch.specs.Device.{Lent, lent, delivered, kept, left, queued, reportsFor, aside, World}
 
 pub record Ghost : Type 0 where
   pub session : Session
@@ -22,20 +20,14 @@ pub record Ghost : Type 0 where
   pub back : List ℕ
 
 -- what is there without it
-abbrev pub seen : Ghost → World
-seen w = record { session = w .session; table = w .table; reply = w .reply; out = w .out; queue = w .queue }
+abbrev pub seen : Ghost → World Session
+seen w = record { state = w .session; table = w .table; reply = w .reply; out = w .out; queue = w .queue }
 
--- how many bytes of a packet are held
-abbrev pub heldIn : Phase → ℕ
-heldIn (P.Packet h) = h
-heldIn (P.Response x) = 0
-heldIn (P.Switched k) = 0
-heldIn (P.Table x) = 0
-heldIn (P.Between k i) = 0
-heldIn (P.Region k x) = 0
-heldIn (P.Ended k) = 0
+-- what an outcome reports, of a delivery d and an image set
+abbrev pub toldBy : Outcome → List ℕ → List ℕ → List Report
+toldBy r d set = reportsFor (r .stepped .answer) d set (r .out)
 
--- after an own step with delivery d and outcome r
+-- after a step lent the run's own things and a delivery d of the queue's, with outcome r
 abbrev pub afterStep : (ℕ → ℕ) → Ghost → List ℕ → Outcome → Ghost
 afterStep mem w d r =
     record {
@@ -47,18 +39,21 @@ afterStep mem w d r =
       back = pick (eqb (heldIn (r .stepped .session .phase)) 0) [] (w .back ++ take (r .stepped .taken) d);
     }
 
-abbrev pub follow : Setting → Ghost → Turn → Ghost
-follow c w (own d) = afterStep (c .mem) w d (stepOwn c (seen w) d)
-follow c w (other d x z t y o) =
-    record {
-      session = stepOf (w .session) d x z t y o .stepped .session;
-      table = w .table;
-      reply = w .reply;
-      out = w .out;
-      queue = w .queue;
-      back = w .back;
-    }
+-- the outcome of any step
+abbrev pub madeBy : Setting → Ghost → Lent → Outcome
+madeBy c w l =
+    stepOf (w .session) (delivered (l .delivery) (w .queue)) (lent (l .set) (c .set)) (lent (l .names) (c .names)) (lent (l .table) (w .table))
+    (lent (l .reply) (w .reply)) (lent (l .out) (w .out))
 
-pub seen-follow : (c : Setting) (w : Ghost) (i : Turn) → seen (follow c w i) ≡ next c (seen w) i
-seen-follow c w (own d) = refl
-seen-follow c w (other d x z t y o) = refl
+-- after any step: one that is refused with all untouched leaves the held bytes too
+abbrev pub follow : Setting → Ghost → Lent → Ghost
+follow c w l =
+    let r = madeBy c w l in
+    record {
+      session = r .stepped .session;
+      table = kept (l .table) (w .table) (r .table);
+      reply = kept (l .reply) (w .reply) (r .reply);
+      out = kept (l .out) (w .out) (r .out);
+      queue = left (l .delivery) (r .stepped .taken) (w .queue) ++ queued (c .mem) (r .stepped .answer) (r .out);
+      back = pick (aside (r .stepped .answer)) (w .back) (afterStep (c .mem) w (delivered (l .delivery) (w .queue)) r .back);
+    }

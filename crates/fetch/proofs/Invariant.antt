@@ -1,5 +1,5 @@
 -- The invariant, by cases of the phase with its counts: what is well kept (goodAt), what the plain host would still report (dueAt), and a number that
--- bounds the own steps left (boundAt). One step keeps it: Kept. The table is the n bytes of the memory at a. Assumes nothing.
+-- bounds the own steps left (boundAt). One step keeps it: Kept. dbg is the memory debug that the plain host comes to. Assumes nothing.
 use mathlib.Core.Path.{_≡_}
 use mathlib.Core.Bool.{Bool, true, not, _&&_}
 use mathlib.Core.List.{List, [], _∷_, _++_, map}
@@ -19,10 +19,25 @@ use Rattle.session.specs.declared.Phase.{Phase}
 use Rattle.session.specs.declared.Phase.the-variants as P
 use Rattle.session.specs.Outcome.{Outcome}
 use Rattle.steps.specs.Steps.{one}
-use Rattle.fetch.specs.Plain.{Report, byte, closed, bytesAt, hear, Debugged, emptyIf, chunks, chunkCount, chosen, regions, reportsOf}
-use Rattle.fetch.specs.Device.{Setting, toldBy}
+use Rattle.fetch.specs.Plain.{
+  Report,
+  byte,
+  closed,
+  bytesAt,
+  Debug,
+  Debugged,
+  hear,
+  emptyIf,
+  chunks,
+  chunkCount,
+  chosen,
+  regions,
+  tableIn,
+  reportsOf,
+  Setting,
+}
 use Rattle.fetch.specs.Claim.{regionBytes, regionReads}
-use Rattle.fetch.proofs.Ghost.{Ghost, afterStep}
+use Rattle.fetch.proofs.Ghost.{Ghost, toldBy, afterStep}
 
 -- ---- inside a region
 
@@ -53,14 +68,14 @@ boundIn u x = one (x .due) + (x .len - x .done) + one (not (eqb (x .outstanding)
 
 -- ---- by phase
 
-module _ (c : Setting) (a n : ℕ) where
+module _ (c : Setting) (dbg : Debug) where
   -- the table
   abbrev pub tableAt : List ℕ
-  tableAt = bytesAt (c .mem) a n
+  tableAt = tableIn (c .mem) dbg
 
   -- the entries from i on that are selected
   abbrev pub toCome : ℕ → List ℕ
-  toCome i = chosen 8 (c .names) tableAt (n / entrySize 8 - i) i
+  toCome i = chosen 8 (c .names) tableAt (dbg .size / entrySize 8 - i) i
 
   -- packet, h bytes held: the bytes held and the queue are what is left of the opening
   pub record GoodPacket (h : ℕ) (w : Ghost) : Type 0 where
@@ -72,7 +87,7 @@ module _ (c : Setting) (a n : ℕ) where
     pub part : 8 ≤ h → h < lengthField (w .back)
     pub ends :
         hear (w .session .opening) (c .set) (length (w .table)) (length (w .reply)) (length (w .back ++ w .queue)) (w .back ++ w .queue) .ending
-        ≡ Debugged a n []
+        ≡ Debugged dbg []
 
   abbrev pub duePacket : Ghost → List Report
   duePacket w =
@@ -80,14 +95,14 @@ module _ (c : Setting) (a n : ℕ) where
       (hear (w .session .opening) (c .set) (length (w .table)) (length (w .reply)) (length (w .back ++ w .queue)) (w .back ++ w .queue))
 
   abbrev pub boundPacket : Ghost → ℕ
-  boundPacket w = length (w .queue) + n + 2 + cost (w .session .opening) tableAt (toCome 0)
+  boundPacket w = length (w .queue) + dbg .size + 2 + cost (w .session .opening) tableAt (toCome 0)
 
   -- table: the first bytes of the table buffer are the memory's, the queue holds the others
   pub record GoodTable (x : Filling) (w : Ghost) : Type 0 where
     pub out : 48 ≤ length (w .out)
-    pub declared : x .declared ≡ n
-    pub fits : n ≤ room (length (w .table))
-    pub filled : x .filled ≤ n
+    pub declared : x .declared ≡ dbg .size
+    pub fits : dbg .size ≤ room (length (w .table))
+    pub filled : x .filled ≤ dbg .size
     pub table : take (x .filled) (w .table) ≡ take (x .filled) tableAt
     pub queue : w .queue ≡ drop (x .filled) tableAt
     pub reads : w .session .reads ≡ 1
@@ -96,16 +111,16 @@ module _ (c : Setting) (a n : ℕ) where
   dueTable w = regions 8 (w .session .opening) (c .mem) tableAt (toCome 0) 1
 
   abbrev pub boundTable : Filling → Ghost → ℕ
-  boundTable x w = n - x .filled + 2 + cost (w .session .opening) tableAt (toCome 0)
+  boundTable x w = dbg .size - x .filled + 2 + cost (w .session .opening) tableAt (toCome 0)
 
   -- between regions, from entry i on, k the declared length: the table is read, nothing is queued
   pub record GoodBetween (k i : ℕ) (w : Ghost) : Type 0 where
     pub out : 48 ≤ length (w .out)
-    pub declared : k ≡ n
-    pub fits : n ≤ room (length (w .table))
-    pub table : take n (w .table) ≡ tableAt
+    pub declared : k ≡ dbg .size
+    pub fits : dbg .size ≤ room (length (w .table))
+    pub table : take (dbg .size) (w .table) ≡ tableAt
     pub queue : w .queue ≡ []
-    pub entry : i ≤ n / entrySize 8
+    pub entry : i ≤ dbg .size / entrySize 8
     pub reads : w .session .reads ≤ 1 + i * 2 ^ 53
 
   abbrev pub dueBetween : ℕ → Ghost → List Report
@@ -117,11 +132,11 @@ module _ (c : Setting) (a n : ℕ) where
   -- region x, k the table's declared length: the queue holds the bytes that were asked for and not yet handed out
   pub record GoodRegion (k : ℕ) (x : Region) (w : Ghost) : Type 0 where
     pub out : 48 ≤ length (w .out)
-    pub declared : k ≡ n
-    pub fits : n ≤ room (length (w .table))
-    pub table : take n (w .table) ≡ tableAt
+    pub declared : k ≡ dbg .size
+    pub fits : dbg .size ≤ room (length (w .table))
+    pub table : take (dbg .size) (w .table) ≡ tableAt
     pub queue : w .queue ≡ bytesAt (c .mem) (x .base + x .done) (x .outstanding)
-    pub entry : x .entry < n / entrySize 8
+    pub entry : x .entry < dbg .size / entrySize 8
     pub reads : w .session .reads + chunkCount (w .session .opening) (unasked x) ≤ 1 + suc (x .entry) * 2 ^ 53
     pub named : afterOpenCheck (filenameOf 8 (entryOf 8 (w .table) (x .entry))) ≡ N.Good
     pub within : x .done + x .outstanding ≤ x .len

@@ -1,4 +1,4 @@
--- What the plain host's report says, by induction on its chunks, its regions and its opening: the selected regions in table order, byte for byte as
+-- What the plain host's report says, by induction on its chunks, its regions and its opening bytes: the selected regions in table order, byte for byte as
 -- the memory holds them, then the end with the number of memory reads sent: one for the table and one a chunk. Assumes nothing.
 use mathlib.Core.Path.{_≡_, refl, sym, ap, _∙_}
 use mathlib.Core.Bool.{Bool, true, false, not}
@@ -8,7 +8,7 @@ use native.Mathlib.Omega.{arith}
 use native.Mathlib.Nat.{add-zero, add-assoc}
 use lib.Dec.{eqb, ltb}
 use lib.ListN.{length, take, drop}
-use borrow.Author.Tests.{eqb-true, eqb-false, not-false}
+use borrow.Author.Tests.{eqb-true, eqb-false}
 use Rattle.base.proofs.Ranges.{by-test}
 use Rattle.bundle.specs.Bundle.{wellFormed}
 use Rattle.entry.specs.Entry.{entryOf, baseOf, lengthOf}
@@ -31,6 +31,7 @@ use Rattle.fetch.specs.Plain.{
   closed,
   finished,
   bytesAt,
+  Debug,
   Debugged,
   hear,
   hosted,
@@ -40,29 +41,21 @@ use Rattle.fetch.specs.Plain.{
   chunks,
   chunkCount,
   regions,
+  tableIn,
   selectedIn,
   dump,
   reportsOf,
+  Setting,
+  heardOf,
   plain,
 }
-use Rattle.fetch.specs.Device.{Setting}
 use Rattle.fetch.specs.Claim.{regionReads}
-use Rattle.fetch.proofs.Sent.{asks, asks-read, readsIn, reads-append, reads-bytes, reads-empty}
+use Rattle.fetch.specs.Meaning.{readsIn, shown, regionsIn, Meant}
+use Rattle.fetch.proofs.Sent.{asks, asks-read, reads-append, reads-bytes, reads-empty}
 use Rattle.fetch.proofs.Device.{no-bytes, bytesAt-split}
 use Rattle.fetch.proofs.Chunk.{Chunk, chunk-good, chunk-some, count-none, count-step}
 use Rattle.fetch.proofs.Verdict.{sane}
-use Rattle.fetch.proofs.Opening.{never}
-
--- a report without packets, image bytes and empty reads
-unfoldable pub shown : List Report → List Report
-shown [] = []
-shown (sent p ∷ l) = shown l
-shown (image p ∷ l) = shown l
-shown (opened i ∷ l) = opened i ∷ shown l
-shown (byte b ∷ l) = byte b ∷ shown l
-shown (emptyRead ∷ l) = shown l
-shown (closed i ∷ l) = closed i ∷ shown l
-shown (finished how r ∷ l) = finished how r ∷ shown l
+use Rattle.fetch.proofs.Cutting.{never}
 
 shown-append : (l m : List Report) → shown (l ++ m) ≡ shown l ++ shown m
 unfolding shown
@@ -140,13 +133,6 @@ module _ (u : Opening) (z : Chunk (chunkOf u)) (mem : ℕ → ℕ) where
 
 -- ---- the regions
 
--- the regions of some entries as the memory holds them
-unfoldable pub regionsIn : ℕ → (ℕ → ℕ) → List ℕ → List ℕ → List Report
-regionsIn f mem t [] = []
-regionsIn f mem t (i ∷ is) =
-    let e = entryOf f t i in
-    opened i ∷ (map byte (bytesAt mem (baseOf f e) (lengthOf f e)) ++ (closed i ∷ regionsIn f mem t is))
-
 module _ (f : ℕ) (u : Opening) (z : Chunk (chunkOf u)) (mem : ℕ → ℕ) (t : List ℕ) where
   regions-shown : (is : List ℕ) (r : ℕ) → shown (regions f u mem t is r) ≡ regionsIn f mem t is ++ (finished 3 (r + regionReads f u t is) ∷ [])
   unfolding shown regions regionsIn regionReads
@@ -176,89 +162,80 @@ module _ (f : ℕ) (u : Opening) (z : Chunk (chunkOf u)) (mem : ℕ → ℕ) (t 
       )
       (omega arith)
 
--- ---- an opening that comes to a memory debug has sent packets that are no memory reads, and image bytes, alone
+-- ---- opening bytes that come to a memory debug have sent packets that are no memory reads, and image bytes, alone
 
-module _ (u : Opening) (set : List ℕ) (tsize rsize : ℕ) (good : wellFormed true set ≡ true) where
+module _ (u : Opening) (set : List ℕ) (tsize rsize : ℕ) where
   module _ (P : List Report → Type 0) (none : P []) (packet : (q : Request) (l : List Report) → asks q ≡ false → P l → P (sent (bytesOf q) ∷ l))
       (bytes : (p : List ℕ) (l : List Report) → P l → P (image p ∷ l)) where
-    heard : (f : ℕ) (s : List ℕ) (a n : ℕ) (r : List ℕ) → hear u set tsize rsize f s .ending ≡ Debugged a n r
+    heard : (f : ℕ) (s : List ℕ) (dbg : Debug) (r : List ℕ) → hear u set tsize rsize f s .ending ≡ Debugged dbg r
         → P (hear u set tsize rsize f s .said)
     unfolding hear
-    heard zero s a n r h = never a n r h
-    heard (suc f) s a n r h =
-        by-test (ltb (length s) 8) (λ e. never a n r (rw e at h))
+    heard zero s dbg r h = never dbg r h
+    heard (suc f) s dbg r h =
+        by-test (ltb (length s) 8) (λ e. never dbg r (rw e at h))
         (λ e.
-        by-test (badLength (lengthField s)) (λ m. never a n r (rw (e, m) at h))
+        by-test (badLength (lengthField s)) (λ m. never dbg r (rw (e, m) at h))
         (λ m.
-        by-test (ltb (length s) (lengthField s)) (λ i. never a n r (rw (e, m, i) at h))
-        (λ i. by (heard f (drop (lengthField s) s) a n r) e m i (verdictOf u set tsize rsize (take (lengthField s) s)) refl)))
+        by-test (ltb (length s) (lengthField s)) (λ i. never dbg r (rw (e, m, i) at h))
+        (λ i. by (heard f (drop (lengthField s) s) dbg r) e m i (verdictOf u set tsize rsize (take (lengthField s) s)) refl)))
       where
-        by : (hear u set tsize rsize f (drop (lengthField s) s) .ending ≡ Debugged a n r
+        by : (hear u set tsize rsize f (drop (lengthField s) s) .ending ≡ Debugged dbg r
             → P (hear u set tsize rsize f (drop (lengthField s) s) .said))
             → ltb (length s) 8 ≡ false → badLength (lengthField s) ≡ false → ltb (length s) (lengthField s) ≡ false
             → (v : Verdict) → verdictOf u set tsize rsize (take (lengthField s) s) ≡ v → P (hear u set tsize rsize (suc f) s .said)
         by ih e m i (W.Reply q) z =
-            let y : asks q ≡ false = rw z at (sane u set tsize rsize good (take (lengthField s) s)) in
+            let y : asks q ≡ false = rw z at (sane u set tsize rsize (take (lengthField s) s)) in
             rw (e, m, i, z) (packet q _ y (ih (rw (e, m, i, z) at h)))
         by ih e m i (W.Image x k) z = rw (e, m, i, z) (bytes (take k (drop x set)) _ (ih (rw (e, m, i, z) at h)))
         by ih e m i W.Pass z = rw (e, m, i, z) (ih (rw (e, m, i, z) at h))
-        by ih e m i (W.Finish how) z = never a n r (rw (e, m, i, z) at h)
-        by ih e m i (W.Respond c k) z = never a n r (rw (e, m, i, z) at h)
+        by ih e m i (W.Finish how) z = never dbg r (rw (e, m, i, z) at h)
+        by ih e m i (W.Respond c k) z = never dbg r (rw (e, m, i, z) at h)
         by ih e m i (W.Debug x k) z = rw (e, m, i, z) none
-        by ih e m i (W.Refused why) z = never a n r (rw (e, m, i, z) at h)
+        by ih e m i (W.Refused why) z = never dbg r (rw (e, m, i, z) at h)
 
-  module _ (f : ℕ) (s : List ℕ) (a n : ℕ) (r : List ℕ) (h : hear u set tsize rsize f s .ending ≡ Debugged a n r) where
+  module _ (f : ℕ) (s : List ℕ) (dbg : Debug) (r : List ℕ) (h : hear u set tsize rsize f s .ending ≡ Debugged dbg r) where
     heard-shown : shown (hear u set tsize rsize f s .said) ≡ []
     unfolding shown
-    heard-shown = heard (λ l. shown l ≡ []) refl (λ q l y e. e) (λ p l e. e) f s a n r h
+    heard-shown = heard (λ l. shown l ≡ []) refl (λ q l y e. e) (λ p l e. e) f s dbg r h
 
     heard-reads : readsIn (hear u set tsize rsize f s .said) ≡ 0
     unfolding readsIn
-    heard-reads = heard (λ l. readsIn l ≡ 0) refl (λ q l y z. rw (asks-read q, y, z) refl) (λ p l z. rw z refl) f s a n r h
+    heard-reads = heard (λ l. readsIn l ≡ 0) refl (λ q l y z. rw (asks-read q, y, z) refl) (λ p l z. rw z refl) f s dbg r h
 
 -- ---- the whole report
 
--- a report of a device whose table stands in n bytes at a
-pub record Meant (u : Opening) (c : Setting) (a n : ℕ) (l : List Report) : Type 0 where
-  -- besides packets, image bytes and empty reads, it is the selected regions in table order, byte for byte, and the end: finished (3), with one
-  -- memory read for the table and one a chunk
-  pub shows :
-      shown l
-      ≡ regionsIn 8 (c .mem) (bytesAt (c .mem) a n) (selectedIn 8 (c .mem) (c .names) a n)
-      ++ (finished 3 (1 + regionReads 8 u (bytesAt (c .mem) a n) (selectedIn 8 (c .mem) (c .names) a n)) ∷ [])
-  -- and so many were sent
-  pub reads : readsIn l ≡ 1 + regionReads 8 u (bytesAt (c .mem) a n) (selectedIn 8 (c .mem) (c .names) a n)
-
-heard-meant : (u : Opening) (c : Setting) (a n tsize rsize f : ℕ) (s r : List ℕ) → wellFormed true (c .set) ≡ true
-    → hear u (c .set) tsize rsize f s .ending ≡ Debugged a n r → Meant u c a n (reportsOf u (c .mem) (c .names) (hear u (c .set) tsize rsize f s))
+heard-meant : (c : Setting) (dbg : Debug) (tsize rsize f : ℕ) (s r : List ℕ)
+    → hear (c .opening) (c .set) tsize rsize f s .ending ≡ Debugged dbg r
+    → Meant c dbg (reportsOf (c .opening) (c .mem) (c .names) (hear (c .opening) (c .set) tsize rsize f s))
 unfolding reportsOf dump shown readsIn
-heard-meant u c a n tsize rsize f s r good h =
+heard-meant c dbg tsize rsize f s r h =
+    let u : Opening = c .opening in
     let z : Chunk (chunkOf u) = chunk-good u in
-    let t : List ℕ = bytesAt (c .mem) a n in
-    let is : List ℕ = selectedIn 8 (c .mem) (c .names) a n in
+    let t : List ℕ = tableIn (c .mem) dbg in
+    let is : List ℕ = selectedIn 8 (c .mem) (c .names) dbg in
     let said : List Report = hear u (c .set) tsize rsize f s .said in
     record {
-      shows = rw (h, shown-append said, heard-shown u (c .set) tsize rsize good f s a n r h) (regions-shown 8 u z (c .mem) t is 1);
+      shows = rw (h, shown-append said, heard-shown u (c .set) tsize rsize f s dbg r h) (regions-shown 8 u z (c .mem) t is 1);
       reads =
           rw (
             h,
             reads-append said,
-            heard-reads u (c .set) tsize rsize good f s a n r h,
-            asks-read (Q.MemRead64 a n),
+            heard-reads u (c .set) tsize rsize f s dbg r h,
+            asks-read (Q.MemRead64 (dbg .address) (dbg .size)),
             regions-reads 8 u z (c .mem) t is 1,
           )
           (omega arith);
     }
 
--- the plain host's report, where its opening comes to a memory debug
-pub plain-meant : (u : Opening) (c : Setting) (tsize rsize osize : ℕ) (s : List ℕ) (a n : ℕ) (r : List ℕ)
-    → hosted u (c .set) (c .names) tsize rsize osize s .ending ≡ Debugged a n r
-    → Meant u c a n (plain u (c .mem) (c .set) (c .names) tsize rsize osize s)
+-- the plain host's report, where its opening bytes come to a memory debug
+pub plain-meant : (c : Setting) (dbg : Debug) (r : List ℕ) → heardOf c .ending ≡ Debugged dbg r → Meant c dbg (plain c)
 unfolding plain hosted
-plain-meant u c tsize rsize osize s a n r h =
-    by-test (not (wellFormed true (c .set))) (λ e. never a n r (rw e at h))
+plain-meant c dbg r h =
+    by-test (not (wellFormed true (c .set))) (λ e. never dbg r (rw e at h))
     (λ e.
-    by-test (not (wellFormed false (c .names))) (λ m. never a n r (rw (e, m) at h))
+    by-test (not (wellFormed false (c .names))) (λ m. never dbg r (rw (e, m) at h))
     (λ m.
-    by-test (ltb osize 48) (λ i. never a n r (rw (e, m, i) at h))
-    (λ i. rw (e, m, i) (heard-meant u c a n tsize rsize (length s) s r (not-false _ e) (rw (e, m, i) at h)))))
+    by-test (ltb (length (c .out)) 48) (λ i. never dbg r (rw (e, m, i) at h))
+    (λ i.
+    rw (e, m, i)
+    (heard-meant c dbg (length (c .table)) (length (c .reply)) (length (c .bytes)) (c .bytes) r (rw (e, m, i) at h)))))

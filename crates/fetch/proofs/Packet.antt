@@ -1,7 +1,7 @@
 -- Packet: a step keeps the invariant. The bytes held and the queue, put together, are the string s that is left of the opening; a step moves bytes
 -- from one to the other, and cuts a packet off where the plain host does. Assumes nothing.
 use mathlib.Core.Path.{_≡_, refl, sym, ap, _∙_}
-use mathlib.Core.Bool.{true, false, _||_}
+use mathlib.Core.Bool.{false, _||_}
 use mathlib.Core.List.{List, [], _∷_, _++_, append-assoc, append-nil}
 use Prim.Native.Nat.{ℕ, _+_, _-_, _^_, _≤_, _<_, min}
 use native.Mathlib.Omega.{arith}
@@ -11,13 +11,13 @@ use lib.ListN.{length, take, drop, length-append, length-take, length-drop, take
 use lib.Seq.{take-all, take-length, take-take, take-append-le, take-append-add, drop-append-add, length-take-le, take-at}
 use borrow.Author.Tests.{ltb-true, ltb-false, ne-eqb, le-ltb, lt-leb, leb-true}
 use Rattle.base.proofs.Ranges.{by-test}
-use Rattle.bundle.specs.Bundle.{wellFormed}
 use Rattle.field.proofs.Laws.{le-within}
 use Rattle.packet.specs.Packet.{lengthField, badLength}
 use Rattle.build.specs.Build.{bytesOf, sizeOf, front}
 use Rattle.build.specs.declared.Request.{Request}
 use Rattle.build.specs.declared.Request.the-variants as Q
 use Rattle.verdict.specs.Verdict.{room, verdictOf}
+use Rattle.verdict.proofs.Laws.{verdict-window}
 use Rattle.verdict.specs.declared.Opening.{Opening}
 use Rattle.verdict.specs.declared.Verdict.{Verdict}
 use Rattle.verdict.specs.declared.Verdict.the-variants as W
@@ -25,13 +25,15 @@ use Rattle.session.specs.declared.Phase.the-variants as P
 use Rattle.session.specs.declared.Answer.the-variants as A
 use Rattle.session.specs.Outcome.{Outcome, outcome, gives, holding, reading, filling}
 use Rattle.session.specs.PacketPhase.{keep, wholeOf, sizedOf, packetOf}
+use Rattle.session.proofs.Window.{keep-length, keep-same}
 use Rattle.session.specs.Limits.{readsLimit, phaseLimit}
 use Rattle.fetch.specs.Plain.{
   Report,
   sent,
   image,
   finished,
-  bytesAt,
+  Debug,
+  debug,
   Heard,
   Stopped,
   Debugged,
@@ -39,41 +41,21 @@ use Rattle.fetch.specs.Plain.{
   say,
   hear,
   dump,
-  reportsOf,
+  tableIn,
   selectedIn,
   regions,
+  reportsOf,
+  Setting,
 }
-use Rattle.fetch.specs.Device.{Setting, Delivered, served}
-use Rattle.fetch.proofs.Basics.{le-same, take-front, take-comm}
+use Rattle.fetch.specs.Device.{served}
+use Rattle.field.proofs.Laws.{le-same}
 use Rattle.fetch.proofs.Ghost.{Ghost}
 use Rattle.build.proofs.Laws.{take-front as take-sent}
 use Rattle.fetch.proofs.Sent.{length-out, asks, asks-read}
-use Rattle.fetch.proofs.Device.{unserved, served-read, no-longer, first-of}
-use Rattle.fetch.proofs.Opening.{Begins, begins}
-use Rattle.fetch.proofs.Verdict.{verdict-window, sane}
+use Rattle.fetch.proofs.Device.{unserved, served-read, Came, no-longer, first-of}
+use Rattle.fetch.proofs.Cutting.{Begins, begins}
+use Rattle.fetch.proofs.Verdict.{sane}
 use Rattle.fetch.proofs.Invariant.{GoodPacket, duePacket, boundPacket, Kept, via}
-
--- ---- the window
-
--- the window keeps the first 48 bytes of what is held
-module _ (v b x : List ℕ) (h : ℕ) (size : length v ≡ 48) (count : length b ≡ h) (same : take h v ≡ take 48 b) where
-  keep-length : length (keep v h x) ≡ 48
-  keep-length = simp (length-take, length-append, length-drop, size) (omega arith)
-
-  keep-same : take (h + length x) (keep v h x) ≡ take 48 (b ++ x)
-  keep-same =
-      let f : take 48 (take h v ++ x) ≡ take 48 (b ++ x) = rw same (take-front 48 b x) in
-      by-test (ltb 48 h)
-      (λ m.
-      let l : 48 < h = ltb-true _ _ m in
-      let y : length v ≤ h + length x = omega arith in
-      let e : drop (h + length x) v ≡ [] = drop-of-length-le v y in
-      let t : length (keep v h x) ≤ h + length x = omega (arith, keep-length) in
-      take-all (h + length x) (keep v h x) t ∙ (rw (e, append-nil) f))
-      (λ m.
-      let l : h ≤ 48 = ltb-false _ _ m in
-      let p : length (take h v ++ x) ≡ h + length x = simp (length-append, length-take, size) (omega arith) in
-      rw (take-comm (h + length x) 48, take-at (take h v ++ x) (drop (h + length x) v) (h + length x) p) f)
 
 -- ---- the plain host, one packet on
 
@@ -82,17 +64,17 @@ module _ (u : Opening) (mem : ℕ → ℕ) (names : List ℕ) where
   unfolding reportsOf
   reports-say x p = refl
 
-  reports-debug : (a k : ℕ) (t : List ℕ)
-      → reportsOf u mem names (stop (Debugged a k t))
-      ≡ sent (bytesOf (Q.MemRead64 a k)) ∷ regions 8 u mem (bytesAt mem a k) (selectedIn 8 mem names a k) 1
+  reports-debug : (dbg : Debug) (t : List ℕ)
+      → reportsOf u mem names (stop (Debugged dbg t))
+      ≡ sent (bytesOf (Q.MemRead64 (dbg .address) (dbg .size))) ∷ regions 8 u mem (tableIn mem dbg) (selectedIn 8 mem names dbg) 1
   unfolding reportsOf dump
-  reports-debug a k t = refl
+  reports-debug dbg t = refl
 
-module _ (c : Setting) (a n h : ℕ) (w : Ghost) (g : GoodPacket c a n h w) where
+module _ (c : Setting) (dbg : Debug) (h : ℕ) (w : Ghost) (g : GoodPacket c dbg h w) where
   abbrev u : Opening
   u = w .session .opening
 
-  -- what is left of the opening, and what the plain host makes of it
+  -- what is left of the opening bytes, and what the plain host makes of it
   abbrev s : List ℕ
   s = w .back ++ w .queue
 
@@ -102,8 +84,12 @@ module _ (c : Setting) (a n h : ℕ) (w : Ghost) (g : GoodPacket c a n h w) wher
   abbrev size : ℕ
   size = lengthField s
 
+  -- the memory read that the memory debug is answered with
+  abbrev read : Request
+  read = Q.MemRead64 (dbg .address) (dbg .size)
+
   first : Begins u (c .set) (length (w .table)) (length (w .reply)) s
-  first = begins u (c .set) (length (w .table)) (length (w .reply)) s a n [] (g .ends)
+  first = begins u (c .set) (length (w .table)) (length (w .reply)) s dbg [] (g .ends)
 
   s-length : length s ≡ h + length (w .queue)
   s-length = length-append (w .back) (w .queue) ∙ ap (λ (i : ℕ). i + length (w .queue)) (g .count)
@@ -136,9 +122,9 @@ module _ (c : Setting) (a n h : ℕ) (w : Ghost) (g : GoodPacket c a n h w) wher
 
   -- ---- a step with a delivery
 
-  module _ (d : List ℕ) (v : Delivered d (w .queue)) where
+  module _ (d : List ℕ) (v : Came d (w .queue)) where
     abbrev Keeps : Outcome → Type 0
-    Keeps r = Kept c a n (duePacket c a n w) (boundPacket c a n w) w d r
+    Keeps r = Kept c dbg (duePacket c dbg w) (boundPacket c dbg w) w d r
 
     moved : (k : ℕ) → k ≤ length d → w .back ++ take k d ≡ take (h + k) s
     moved k l =
@@ -149,12 +135,12 @@ module _ (c : Setting) (a n h : ℕ) (w : Ghost) (g : GoodPacket c a n h w) wher
     together k l = rw (append-nil, append-assoc, first-of d (w .queue) k v l, take-append-drop) refl
 
     window-length : (k : ℕ) → length (keep (w .session .window) h (take k d)) ≡ 48
-    window-length k = keep-length (w .session .window) (w .back) (take k d) h (g .size) (g .count) (g .same)
+    window-length k = rw (← g .count) (keep-length (w .session .window) (w .back) (take k d) (g .size))
 
     window-same : (k : ℕ) → k ≤ length d → take (h + k) (keep (w .session .window) h (take k d)) ≡ take 48 (w .back ++ take k d)
     window-same k l =
         ap (λ (i : ℕ). take (h + i) (keep (w .session .window) h (take k d))) (sym (length-take-le k d l))
-        ∙ keep-same (w .session .window) (w .back) (take k d) h (g .size) (g .count) (g .same)
+        ∙ rw (← g .count) (keep-same (w .session .window) (w .back) (take k d) (g .size) (rw (g .count) (g .same)))
 
     -- the header in the window is the string's
     header : (k : ℕ) → k ≤ length d → 8 ≤ h + k → lengthField (keep (w .session .window) h (take k d)) ≡ size
@@ -216,17 +202,17 @@ module _ (c : Setting) (a n h : ℕ) (w : Ghost) (g : GoodPacket c a n h w) wher
         rw (header k l (omega (arith, to-size, first .sized .low)), e)
         (verdict-window u (c .set) (length (w .table)) (length (w .reply)) (take size s))
 
-    -- what is left of the opening, after the packet
+    -- what is left of the opening bytes, after the packet
     abbrev after-it : Heard
     after-it = hear u (c .set) (length (w .table)) (length (w .reply)) (length rest) rest
 
     -- a packet after which another is to come: what it says is reported
-    module _ (good : wellFormed true (c .set) ≡ true) (l : k ≤ length d) where
+    module _ (l : k ≤ length d) where
       reply : (q : Request) → verdict ≡ W.Reply q
           → Keeps (outcome (gives (holding (w .session) win (P.Packet 0)) k (A.Send (sizeOf q))) (w .table) (w .reply) (front q (w .out)))
       reply q e =
           let f : heard ≡ say (sent (bytesOf q)) after-it = first .cut ∙ rw e refl in
-          let y : asks q ≡ false = rw e at (sane u (c .set) (length (w .table)) (length (w .reply)) good (take size s)) in
+          let y : asks q ≡ false = rw e at (sane u (c .set) (length (w .table)) (length (w .reply)) (take size s)) in
           let st : take (sizeOf q) (front q (w .out)) ≡ bytesOf q = take-sent q (w .out) in
           let z : drop k (w .queue) ++ served (c .mem) (take (sizeOf q) (front q (w .out))) ≡ rest =
           rw (st, unserved (c .mem) (bytesOf q) (asks-read q ∙ y), append-nil) queue-rest in
@@ -285,56 +271,56 @@ module _ (c : Setting) (a n h : ℕ) (w : Ghost) (g : GoodPacket c a n h w) wher
           }
 
       -- it is the memory debug that the plain host comes to
-      debugged : (b m : ℕ) → verdict ≡ W.Debug b m → (b ≡ a) × (m ≡ n) × (rest ≡ [])
+      debugged : (b m : ℕ) → verdict ≡ W.Debug b m → (b ≡ dbg .address) × (m ≡ dbg .size) × (rest ≡ [])
       debugged b m e =
-          let f : heard ≡ stop (Debugged b m rest) = first .cut ∙ rw e refl in
-          let q : Debugged b m rest ≡ Debugged a n [] = ap (λ (o : Heard). o .ending) (sym f) ∙ g .ends in
+          let f : heard ≡ stop (Debugged (debug b m) rest) = first .cut ∙ rw e refl in
+          let q : Debugged (debug b m) rest ≡ Debugged dbg [] = ap (λ (o : Heard). o .ending) (sym f) ∙ g .ends in
           (cc q, cc q, cc q)
 
-      debug : a + n ≤ 2 ^ 64 → verdict ≡ W.Debug a n
+      ask : dbg .address + dbg .size ≤ 2 ^ 64 → verdict ≡ W.Debug (dbg .address) (dbg .size)
           → Keeps
-          (outcome (gives (reading (holding (w .session) win (w .session .phase)) 1 (P.Table (filling n 0))) k (A.Send 24)) (w .table) (w .reply)
-          (front (Q.MemRead64 a n) (w .out)))
-      debug i e =
-          let f : heard ≡ stop (Debugged a n rest) = first .cut ∙ rw e refl in
-          let y : n ≤ room (length (w .table)) = rw e at (sane u (c .set) (length (w .table)) (length (w .reply)) good (take size s)) in
-          let st : take 24 (front (Q.MemRead64 a n) (w .out)) ≡ bytesOf (Q.MemRead64 a n) = take-sent (Q.MemRead64 a n) (w .out) in
+          (outcome (gives (reading (holding (w .session) win (w .session .phase)) 1 (P.Table (filling (dbg .size) 0))) k (A.Send (sizeOf read)))
+          (w .table) (w .reply) (front read (w .out)))
+      ask i e =
+          let f : heard ≡ stop (Debugged dbg rest) = first .cut ∙ rw e refl in
+          let y : dbg .size ≤ room (length (w .table)) = rw e at (sane u (c .set) (length (w .table)) (length (w .reply)) (take size s)) in
+          let st : take (sizeOf read) (front read (w .out)) ≡ bytesOf read = take-sent read (w .out) in
           record {
             good =
                 record {
-                  out = rw (length-out (Q.MemRead64 a n) (w .out) (g .out)) (g .out);
+                  out = rw (length-out read (w .out) (g .out)) (g .out);
                   declared = refl;
                   fits = y;
                   filled = omega arith;
                   table = refl;
-                  queue = rw (queue-rest, debugged a n e .2, st) (served-read (c .mem) a n (omega arith) (omega arith));
+                  queue = rw (queue-rest, debugged (dbg .address) (dbg .size) e .2, st) (served-read (c .mem) (dbg .address) (dbg .size) (omega arith) (omega arith));
                   reads = refl;
                 };
-            told = rw (f, st, sub-zero) (reports-debug u (c .mem) (c .names) a n rest);
+            told = rw (f, st, sub-zero) (reports-debug u (c .mem) (c .names) dbg rest);
             fell = omega (arith, no-longer d (w .queue) v, short);
           }
 
       -- the plain host does not stop here
       no-stop : (x : List Report) → heard ≡ record { said = x; ending = Stopped } → ⊥
       no-stop x f =
-          let q : Stopped ≡ Debugged a n [] = ap (λ (o : Heard). o .ending) (sym f) ∙ g .ends in
+          let q : Stopped ≡ Debugged dbg [] = ap (λ (o : Heard). o .ending) (sym f) ∙ g .ends in
           let y : _≡_ {A = ℕ} 0 1 = cc in
           omega arith
 
-      whole : a + n ≤ 2 ^ 64 → Keeps (wholeOf (w .session) k win (c .set) (w .table) (w .reply) (w .out))
+      whole : dbg .address + dbg .size ≤ 2 ^ 64 → Keeps (wholeOf (w .session) k win (c .set) (w .table) (w .reply) (w .out))
       unfolding wholeOf
       whole i = go verdict refl
         where
           go : (x : Verdict) → verdict ≡ x → Keeps (wholeOf (w .session) k win (c .set) (w .table) (w .reply) (w .out))
-          go (W.Reply q) e = via c a n (rw (same-verdict l, e) refl) (reply q e)
-          go (W.Image x m) e = via c a n (rw (same-verdict l, e) refl) (show x m e)
-          go W.Pass e = via c a n (rw (same-verdict l, e) refl) (pass e)
+          go (W.Reply q) e = via c dbg (rw (same-verdict l, e) refl) (reply q e)
+          go (W.Image x m) e = via c dbg (rw (same-verdict l, e) refl) (show x m e)
+          go W.Pass e = via c dbg (rw (same-verdict l, e) refl) (pass e)
           go (W.Finish how) e = absurd (no-stop (finished how 0 ∷ []) (first .cut ∙ rw e refl))
           go (W.Respond x m) e = absurd (no-stop (sent (bytesOf (Q.ExecuteData x)) ∷ []) (first .cut ∙ rw e refl))
           go (W.Debug b m) e =
               let p = debugged b m e in
-              let f : verdict ≡ W.Debug a n = e ∙ rw (p .0, p .1) refl in
-              via c a n (rw (same-verdict l, f) refl) (debug i f)
+              let f : verdict ≡ W.Debug (dbg .address) (dbg .size) = e ∙ rw (p .0, p .1) refl in
+              via c dbg (rw (same-verdict l, f) refl) (ask i f)
           go (W.Refused why) e = absurd (no-stop [] (first .cut ∙ rw e refl))
 
     -- ---- any step
@@ -342,20 +328,20 @@ module _ (c : Setting) (a n h : ℕ) (w : Ghost) (g : GoodPacket c a n h w) wher
     some-came : 0 < length d
     some-came = v .some (omega (arith, s-length, first .whole, short))
 
-    module _ (good : wellFormed true (c .set) ≡ true) (top : a + n ≤ 2 ^ 64) where
+    module _ (top : dbg .address + dbg .size ≤ 2 ^ 64) where
       body : Keeps (sizedOf (w .session) h d size (c .set) (w .table) (w .reply) (w .out))
       unfolding sizedOf
       body =
           let b : badLength size ≡ false = first .good in
           by-test (ltb (h + min k (length d)) size)
           (λ m.
-          via c a n (rw (b, m) refl)
+          via c dbg (rw (b, m) refl)
           (part (min k (length d)) (omega (arith, short, some-came)) (omega arith) (λ y. ltb-true _ _ m)))
           (λ m.
           let t : size ≤ h + min k (length d) = ltb-false _ _ m in
           let l : k ≤ length d = omega (arith, short) in
           let f : min k (length d) ≡ k = omega arith in
-          via c a n (rw (b, m, f) refl) (whole good l top))
+          via c dbg (rw (b, m, f) refl) (whole l top))
 
       pub packet : Keeps (packetOf (w .session) h d (c .set) (w .table) (w .reply) (w .out))
       unfolding packetOf
@@ -364,8 +350,8 @@ module _ (c : Setting) (a n h : ℕ) (w : Ghost) (g : GoodPacket c a n h w) wher
           (λ m.
           let l : h + length d < 8 = ltb-true _ _ m in
           let z : 8 ≤ h + length d → h + length d < size = λ y. absurd (omega arith) in
-          via c a n (rw (m, take-length d) refl) (part (length d) some-came (omega arith) z))
+          via c dbg (rw (m, take-length d) refl) (part (length d) some-came (omega arith) z))
           (λ m.
           let y : 8 ≤ h + length d = ltb-false _ _ m in
           let z : lengthField (keep (w .session .window) h d) ≡ size = rw take-length at (header (length d) (omega arith) y) in
-          via c a n (rw (m, z) refl) body)
+          via c dbg (rw (m, z) refl) body)

@@ -11,7 +11,7 @@ use lib.ListN.{length, take}
 use borrow.Author.Tests.{leb-true, leb-false, eqb-true, eqb-false, eq-eqb, ne-eqb, le-ltb, lt-leb}
 use Rattle.base.proofs.Ranges.{by-test}
 use Rattle.entry.specs.Entry.{entrySize}
-use Rattle.build.specs.Build.{bytesOf, front}
+use Rattle.build.specs.Build.{bytesOf, sizeOf, front}
 use Rattle.build.specs.declared.Request.{Request}
 use Rattle.build.specs.declared.Request.the-variants as Q
 use Rattle.verdict.specs.Opening.{chunkOf, onUsb}
@@ -23,14 +23,14 @@ use Rattle.session.specs.Outcome.{Outcome, outcome, gives, inPhase, reading, re
 use Rattle.session.specs.RegionPhase.{emptied, dueAfter, nextChunk, askOf, handOf, regionOf}
 use Rattle.session.specs.Limits.{readsLimit, phaseLimit}
 use Rattle.steps.specs.Steps.{one}
-use Rattle.fetch.specs.Plain.{Report, byte, sent, emptyRead, bytesAt, chunk, chunks, chunkCount}
-use Rattle.fetch.specs.Device.{Setting, Delivered}
+use Rattle.fetch.specs.Plain.{Report, byte, sent, emptyRead, bytesAt, Debug, chunk, chunks, chunkCount, Setting}
 use Rattle.fetch.proofs.Chunk.{Chunk, chunk-good, chunk-some, count-none, count-step}
 use Rattle.fetch.proofs.Ghost.{Ghost}
-use Rattle.fetch.proofs.Basics.{and-true, and-false, one-le}
+use Rattle.base.proofs.Tests.{and-true, and-false}
+use Rattle.fetch.proofs.Basics.{one-le}
 use Rattle.build.proofs.Laws.{take-front}
 use Rattle.fetch.proofs.Sent.{length-out}
-use Rattle.fetch.proofs.Device.{length-bytesAt, take-bytesAt, drop-bytesAt, bytesAt-split, served-read, no-bytes, no-longer, first-of}
+use Rattle.fetch.proofs.Device.{length-bytesAt, take-bytesAt, drop-bytesAt, bytesAt-split, served-read, no-bytes, Came, no-longer, first-of}
 use Rattle.fetch.proofs.Invariant.{
   tableAt,
   toCome,
@@ -152,7 +152,7 @@ hand-bound u i b l e k j h m y =
 below : {i j : ℕ} (c : ℕ) → i < j → i + 2 + c ≤ j + 2 + c - 1
 below c h = omega arith
 
-module _ (c : Setting) (a n k : ℕ) (x : Region) (w : Ghost) (g : GoodRegion c a n k x w) where
+module _ (c : Setting) (dbg : Debug) (k : ℕ) (x : Region) (w : Ghost) (g : GoodRegion c dbg k x w) where
   -- what the session was opened with
   abbrev u : Opening
   u = w .session .opening
@@ -165,8 +165,8 @@ module _ (c : Setting) (a n k : ℕ) (x : Region) (w : Ghost) (g : GoodRegion c 
       rw (
         g .declared,
         le-ltb (2 ^ 63 + 1) (w .session .reads) (omega (arith, g .fits, g .entry, g .reads)),
-        le-ltb (length (w .table)) n (omega (arith, g .fits)),
-        lt-leb (n / entrySize 8) (x .entry) (g .entry),
+        le-ltb (length (w .table)) (dbg .size) (omega (arith, g .fits)),
+        lt-leb ((dbg .size) / entrySize 8) (x .entry) (g .entry),
         le-ltb (x .len) (x .done + x .outstanding) (g .within),
         le-ltb (256 ^ 8) (x .base + x .len) (g .top),
       )
@@ -174,9 +174,9 @@ module _ (c : Setting) (a n k : ℕ) (x : Region) (w : Ghost) (g : GoodRegion c 
 
   -- ---- a step with a delivery
 
-  module _ (d : List ℕ) (v : Delivered d (w .queue)) where
+  module _ (d : List ℕ) (v : Came d (w .queue)) where
     abbrev Keeps : Outcome → Type 0
-    Keeps r = Kept c a n (dueRegion c a n x w) (boundRegion c a n x w) w d r
+    Keeps r = Kept c dbg (dueRegion c dbg x w) (boundRegion c dbg x w) w d r
 
     -- an empty read is due
     due-read : x .due ≡ true → Keeps (outcome (gives (inPhase (w .session) (P.Region k (emptied x))) 0 A.EmptyRead) (w .table) (w .reply) (w .out))
@@ -231,11 +231,11 @@ module _ (c : Setting) (a n k : ℕ) (x : Region) (w : Ghost) (g : GoodRegion c 
         → Keeps
         (outcome
         (gives
-        (reading (w .session) (suc (w .session .reads)) (P.Region k (region (x .entry) (x .base) (x .len) (x .done) size false))) 0 (A.Send 24))
+        (reading (w .session) (suc (w .session .reads)) (P.Region k (region (x .entry) (x .base) (x .len) (x .done) size false))) 0 (A.Send (sizeOf (Q.MemRead64 (x .base + x .done) size))))
         (w .table) (w .reply) (front (Q.MemRead64 (x .base + x .done) size) (w .out)))
     ask e z h =
         let p : Request = Q.MemRead64 (x .base + x .done) size in
-        let st : take 24 (front p (w .out)) ≡ bytesOf p = take-front p (w .out) in
+        let st : take (sizeOf p) (front p (w .out)) ≡ bytesOf p = take-front p (w .out) in
         let q : w .queue ≡ [] = g .queue ∙ rw z (no-bytes (c .mem) _) in
         let m : x .done % 512 ≡ 0 = omega (arith, g .cut (omega arith)) in
         let y : 0 < chunkOf u = chunk-some u good in
@@ -301,33 +301,33 @@ module _ (c : Setting) (a n k : ℕ) (x : Region) (w : Ghost) (g : GoodRegion c 
           told = rw (e, b, r) (hand-law u (c .mem) (x .entry) (x .base) (x .len) (x .done) _ (x .outstanding) j (omega arith) (omega arith));
           fell =
               rw e
-              (below (cost u (tableAt c a n) (toCome c a n (suc (x .entry))))
+              (below (cost u (tableAt c dbg) (toCome c dbg (suc (x .entry))))
               (hand-bound u (x .entry) (x .base) (x .len) (x .done) (x .outstanding) j (omega arith) (omega arith) (g .within)));
         }
 
     next : x .due ≡ false → x .outstanding ≡ 0 → Keeps (nextChunk (w .session) k x (w .table) (w .reply) (w .out))
     unfolding nextChunk
     next e z =
-        by-test (leb (x .len) (x .done)) (λ m. via c a n (rw m refl) (close e z (leb-true _ _ m)))
-        (λ m. via c a n (rw m refl) (ask e z (leb-false _ _ m)))
+        by-test (leb (x .len) (x .done)) (λ m. via c dbg (rw m refl) (close e z (leb-true _ _ m)))
+        (λ m. via c dbg (rw m refl) (ask e z (leb-false _ _ m)))
 
     asked : x .due ≡ false → x .outstanding ≡ 0 → Keeps (askOf 8 (w .session) k x (w .table) (w .reply) (w .out))
     unfolding askOf
     asked e z =
         let t : ltb (256 ^ 8) (x .base + x .len) ≡ false = le-ltb (256 ^ 8) (x .base + x .len) (g .top) in
-        by-test (eqb (x .done) 0) (λ m. via c a n (rw (m, g .named, t) refl) (next e z)) (λ m. via c a n (rw m refl) (next e z))
+        by-test (eqb (x .done) 0) (λ m. via c dbg (rw (m, g .named, t) refl) (next e z)) (λ m. via c dbg (rw m refl) (next e z))
 
     handed : x .due ≡ false → (x .outstanding ≡ 0 → ⊥) → Keeps (handOf (w .session) k x d (w .table) (w .reply) (w .out))
     unfolding handOf
     handed e z =
         let q : length (w .queue) ≡ x .outstanding = ap length (g .queue) ∙ length-bytesAt (c .mem) _ (x .outstanding) in
         let y : 0 < length d = v .some (omega arith) in
-        via c a n (rw (ne-eqb (length d) 0 (omega arith)) refl) (hand e z y (omega (arith, no-longer d (w .queue) v)))
+        via c dbg (rw (ne-eqb (length d) 0 (omega arith)) refl) (hand e z y (omega (arith, no-longer d (w .queue) v)))
 
     pub regionKept : Keeps (regionOf 8 (w .session) k x d (w .table) (w .reply) (w .out))
     unfolding regionOf
     regionKept =
-        by-test (x .due) (λ e. via c a n (rw e refl) (due-read e))
+        by-test (x .due) (λ e. via c dbg (rw e refl) (due-read e))
         (λ e.
-        by-test (eqb (x .outstanding) 0) (λ z. via c a n (rw (e, z) refl) (asked e (eqb-true (x .outstanding) 0 z)))
-        (λ z. via c a n (rw (e, z) refl) (handed e (eqb-false (x .outstanding) 0 z))))
+        by-test (eqb (x .outstanding) 0) (λ z. via c dbg (rw (e, z) refl) (asked e (eqb-true (x .outstanding) 0 z)))
+        (λ z. via c dbg (rw (e, z) refl) (handed e (eqb-false (x .outstanding) 0 z))))

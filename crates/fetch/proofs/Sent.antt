@@ -6,28 +6,20 @@ use mathlib.Core.List.{List, [], _∷_, _++_, map}
 use Prim.Native.Nat.{ℕ, _+_, _≤_}
 use native.Mathlib.Omega.{arith}
 use native.Mathlib.Nat.{add-assoc, zero-add}
-use lib.Dec.{eqb}
 use lib.ListN.{length}
 use Rattle.field.specs.Field.{le, leBytes}
-use Rattle.command.specs.Command.{kindNumber}
-use Rattle.command.specs.declared.SaharaCmd.the-variants as K
-use Rattle.packet.specs.Packet.{commandField}
 use Rattle.build.specs.Build.{fields, bytesOf, front}
 use Rattle.build.specs.declared.Request.{Request}
 use Rattle.build.specs.declared.Request.the-variants as Q
 use Rattle.build.proofs.Laws.{size-most, length-front}
-use Rattle.steps.specs.Steps.{one}
-use Rattle.fetch.specs.Plain.{Report, sent, image, opened, byte, emptyRead, closed, finished, emptyIf}
+use Rattle.fetch.specs.Plain.{Report, byte, isRead, emptyIf}
+use Rattle.fetch.specs.Meaning.{readsIn}
 
 -- the out buffer is as long as before
 pub length-out : (q : Request) (o : List ℕ) → 48 ≤ length o → length (front q o) ≡ length o
 length-out q o h = length-front q o (omega (arith, size-most q))
 
 -- ---- memory reads, by the command and by the request
-
--- a packet that is sent is a memory read
-abbrev pub isRead : List ℕ → Bool
-isRead p = eqb (commandField p) (kindNumber K.MemRead64)
 
 abbrev pub asks : Request → Bool
 asks (Q.HelloResp m) = false
@@ -49,21 +41,6 @@ asks-read Q.Reset = refl
 asks-read (Q.MemRead64 a k) = refl
 
 -- ---- in lists of reports
-
--- a report of a memory read
-abbrev pub readIn : Report → Bool
-readIn (sent p) = isRead p
-readIn (image p) = false
-readIn (opened i) = false
-readIn (byte b) = false
-readIn emptyRead = false
-readIn (closed i) = false
-readIn (finished how r) = false
-
--- the memory reads that were sent
-unfoldable pub readsIn : List Report → ℕ
-readsIn [] = 0
-readsIn (r ∷ l) = one (readIn r) + readsIn l
 
 pub reads-append : (l m : List Report) → readsIn (l ++ m) ≡ readsIn l + readsIn m
 unfolding readsIn

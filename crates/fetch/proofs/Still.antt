@@ -1,12 +1,11 @@
--- Refusals that leave all untouched come from the tests before the phases: no phase but the ended one refuses so. The session stays as it was and
--- nothing is reported, whatever was lent. By the tests of each phase. Assumes nothing.
+-- Refusals that leave all untouched come from the tests before the phases: no phase but the ended one refuses so. Session and buffers stay as they were
+-- and nothing is taken, whatever was lent. By the tests of each phase. Assumes nothing.
 use mathlib.Core.Path.{_≡_, refl}
 use mathlib.Core.Bool.{true, false, not}
 use mathlib.Core.List.{List, []}
 use Prim.Native.Nat.{ℕ, _+_, _-_, _^_, min}
 use lib.Dec.{eqb, ltb, leb, T}
 use lib.ListN.{length, take}
-use borrow.Author.Tests.{not-false}
 use Rattle.bundle.specs.Bundle.{wellFormed}
 use Rattle.entry.specs.Entry.{entryOf, filenameOf}
 use Rattle.utf8.specs.Utf8.{utf8}
@@ -23,15 +22,15 @@ use Rattle.session.specs.declared.Region.{Region}
 use Rattle.session.specs.declared.Phase.{Phase}
 use Rattle.session.specs.declared.Phase.the-variants as P
 use Rattle.session.specs.declared.Session.{Session}
-use Rattle.session.specs.Outcome.{Outcome, outcome, isEnded}
+use Rattle.session.specs.Outcome.{Outcome, outcome, isEnded, untouched}
 use Rattle.session.specs.PacketPhase.{keep, acted, wholeOf, sizedOf, packetOf}
 use Rattle.session.specs.FillingPhase.{responseOf, switchedOf, tableOf}
 use Rattle.session.specs.BetweenPhase.{entriesIn, openOf, betweenOf}
 use Rattle.session.specs.RegionPhase.{nextChunk, begunOf, askOf, handOf, regionOf}
 use Rattle.session.specs.Limits.{limitOf}
 use Rattle.session.specs.Step.{onPhase, stepOf}
-use Rattle.fetch.specs.Device.{aside, toldBy}
-use Rattle.fetch.proofs.Basics.{split}
+use Rattle.fetch.specs.Device.{aside}
+use Rattle.base.proofs.Tests.{split}
 use Rattle.fetch.proofs.Verdict.{Ends, Sane, sane}
 
 -- not such a refusal
@@ -56,7 +55,7 @@ opened-sane name = split NameSane (utf8 name) (λ e. tt) (λ e. refl)
 module _ (s : Session) (d set names t y o : List ℕ) where
   -- ---- no phase but the ended one refuses so
 
-  acted-quiet : (n : ℕ) (w : List ℕ) (v : Verdict) → Sane (length t) v → Quiet (acted s n w t y o v)
+  acted-quiet : (n : ℕ) (w : List ℕ) (v : Verdict) → Sane set (length t) v → Quiet (acted s n w t y o v)
   acted-quiet n w (W.Reply q) e = λ h. h
   acted-quiet n w (W.Image x k) e = λ h. h
   acted-quiet n w W.Pass e = λ h. h
@@ -65,9 +64,9 @@ module _ (s : Session) (d set names t y o : List ℕ) where
   acted-quiet n w (W.Debug a k) e = λ h. h
   acted-quiet n w (W.Refused why) e = rw e (λ h. h)
 
-  pub packet-quiet : wellFormed true set ≡ true → (h : ℕ) → Quiet (packetOf s h d set t y o)
+  pub packet-quiet : (h : ℕ) → Quiet (packetOf s h d set t y o)
   unfolding packetOf sizedOf wholeOf
-  packet-quiet g h =
+  packet-quiet h =
       let size : ℕ = lengthField (keep (s .window) h d) in
       let n : ℕ = min (size - h) (length d) in
       let w : List ℕ = keep (s .window) h (take n d) in
@@ -78,7 +77,7 @@ module _ (s : Session) (d set names t y o : List ℕ) where
       split Quiet (ltb (h + n) size) (λ k i. i)
       (λ k.
       acted-quiet n w (verdictOf (s .opening) set (length t) (length y) (take (lengthField w) w))
-      (sane (s .opening) set (length t) (length y) g (take (lengthField w) w)))))
+      (sane (s .opening) set (length t) (length y) (take (lengthField w) w)))))
 
   response-quiet : (x : Filling) → Quiet (responseOf s x d t y o)
   unfolding responseOf
@@ -97,7 +96,7 @@ module _ (s : Session) (d set names t y o : List ℕ) where
   opening-quiet k i e N.Good m = λ h. h
   opening-quiet k i e (N.Refused why) m = rw m (λ h. h)
 
-  between-quiet : (k from : ℕ) → Quiet (outcome (betweenOf 8 s k from names t) t y o)
+  pub between-quiet : (k from : ℕ) → Quiet (outcome (betweenOf 8 s k from names t) t y o)
   unfolding betweenOf
   between-quiet k from =
       let i : ℕ = nextOf 8 names t (entriesIn 8 k - from) from in
@@ -130,32 +129,37 @@ module _ (s : Session) (d set names t y o : List ℕ) where
 
   -- ---- the step
 
+  -- refused with session and buffers untouched, nothing taken
   pub record Still (r : Outcome) : Type 0 where
-    pub session : r .stepped .session ≡ s
-    pub told : toldBy r d set ≡ []
+    pub why : ℕ
+    pub same : r ≡ untouched s why t y o
 
   abbrev pub Same : Outcome → Type 0
   Same r = T (aside (r .stepped .answer)) → Still r
 
-  phase-still : wellFormed true set ≡ true → (p : Phase) → Same (onPhase s p d set names t y o)
-  phase-still g (P.Packet h) e = absurd (packet-quiet g h e)
-  phase-still g (P.Response x) e = absurd (response-quiet x e)
-  phase-still g (P.Switched k) e = absurd (switched-quiet k e)
-  phase-still g (P.Table x) e = absurd (table-quiet x e)
-  phase-still g (P.Between k i) e = absurd (between-quiet k i e)
-  phase-still g (P.Region k x) e = absurd (region-quiet k x e)
-  phase-still g (P.Ended k) e = record { session = refl; told = refl }
+  -- a phase refuses so only where the session has ended
+  phase-still : (p : Phase) → Same (onPhase s p d set names t y o)
+  phase-still (P.Packet h) e = absurd (packet-quiet h e)
+  phase-still (P.Response x) e = absurd (response-quiet x e)
+  phase-still (P.Switched k) e = absurd (switched-quiet k e)
+  phase-still (P.Table x) e = absurd (table-quiet x e)
+  phase-still (P.Between k i) e = absurd (between-quiet k i e)
+  phase-still (P.Region k x) e = absurd (region-quiet k x e)
+  phase-still (P.Ended k) e = record { why = 4; same = refl }
+
+  refused-still : (why : ℕ) → Same (untouched s why t y o)
+  refused-still why e = record { why = why; same = refl }
 
   pub step-still : Same (stepOf s d set names t y o)
   unfolding stepOf
   step-still =
-      split Same (not (wellFormed true set)) (λ e h. record { session = refl; told = refl })
+      split Same (not (wellFormed true set)) (λ e. refused-still 1)
       (λ e.
-      split Same (not (wellFormed false names)) (λ m h. record { session = refl; told = refl })
+      split Same (not (wellFormed false names)) (λ m. refused-still 2)
       (λ m.
-      split Same (ltb (length o) 48) (λ i h. record { session = refl; told = refl })
+      split Same (ltb (length o) 48) (λ i. refused-still 3)
       (λ i.
-      split Same (isEnded (s .phase)) (λ j h. record { session = refl; told = refl })
+      split Same (isEnded (s .phase)) (λ j. refused-still 4)
       (λ j.
-      split Same (limitOf s t y) (λ k h. record { session = refl; told = refl })
-      (λ k. phase-still (not-false (wellFormed true set) e) (s .phase))))))
+      split Same (limitOf s t y) (λ k. refused-still 18)
+      (λ k. phase-still (s .phase))))))

@@ -16,40 +16,40 @@ use Rattle.session.specs.declared.Answer.the-variants as A
 use Rattle.session.specs.Outcome.{Outcome, outcome, gives, inPhase, filling}
 use Rattle.session.specs.FillingPhase.{tableOf}
 use Rattle.session.specs.Limits.{readsLimit, phaseLimit}
-use Rattle.fetch.specs.Device.{Setting, Delivered}
+use Rattle.fetch.specs.Plain.{Debug, Setting}
 use Rattle.fetch.proofs.Ghost.{Ghost}
-use Rattle.fetch.proofs.Device.{length-bytesAt, first-of}
+use Rattle.fetch.proofs.Device.{length-bytesAt, Came, first-of}
 use Rattle.fetch.proofs.Invariant.{tableAt, GoodTable, dueTable, boundTable, Kept, via}
 
-module _ (c : Setting) (a n : ℕ) (x : Filling) (w : Ghost) (g : GoodTable c a n x w) where
+module _ (c : Setting) (dbg : Debug) (x : Filling) (w : Ghost) (g : GoodTable c dbg x w) where
   abbrev t : List ℕ
-  t = tableAt c a n
+  t = tableAt c dbg
 
   abbrev f : ℕ
   f = x .filled
 
-  queue-length : length (w .queue) ≡ n - f
-  queue-length = ap length (g .queue) ∙ length-drop f t ∙ ap (λ (i : ℕ). i - f) (length-bytesAt (c .mem) a n)
+  queue-length : length (w .queue) ≡ (dbg .size) - f
+  queue-length = ap length (g .queue) ∙ length-drop f t ∙ ap (λ (i : ℕ). i - f) (length-bytesAt (c .mem) (dbg .address) (dbg .size))
 
   pub limits : (readsLimit (w .session) || phaseLimit 8 (w .session .window) (P.Table x) (w .table) (w .reply)) ≡ false
   limits =
       rw (
         g .reads,
         g .declared,
-        le-ltb (length (w .table)) n (omega (arith, g .fits)),
-        le-ltb n f (g .filled),
+        le-ltb (length (w .table)) (dbg .size) (omega (arith, g .fits)),
+        le-ltb (dbg .size) f (g .filled),
       )
       refl
 
   -- ---- a step with a delivery
 
-  module _ (d : List ℕ) (v : Delivered d (w .queue)) where
+  module _ (d : List ℕ) (v : Came d (w .queue)) where
     abbrev Keeps : Outcome → Type 0
-    Keeps r = Kept c a n (dueTable c a n w) (boundTable c a n x w) w d r
+    Keeps r = Kept c dbg (dueTable c dbg w) (boundTable c dbg x w) w d r
 
     -- the bytes that a step takes
     abbrev k : ℕ
-    k = min (n - f) (length d)
+    k = min ((dbg .size) - f) (length d)
 
     -- the table buffer holds k bytes more of the table
     filled-more : take (f + k) (paste (w .table) f d k) ≡ take (f + k) t
@@ -57,14 +57,14 @@ module _ (c : Setting) (a n : ℕ) (x : Filling) (w : Ghost) (g : GoodTable c a 
         let b : take k d ≡ take k (drop f t) = first-of d (w .queue) k v (omega arith) ∙ ap (take k) (g .queue) in
         rw (take-paste (w .table) f d k (omega arith) (omega arith), g .table, b, take-add f k t) refl
 
-    fits-still : n ≤ room (length (paste (w .table) f d k))
+    fits-still : (dbg .size) ≤ room (length (paste (w .table) f d k))
     fits-still = rw (length-paste (w .table) f d k (omega arith) (omega arith)) (g .fits)
 
     queue-left : drop k (w .queue) ++ [] ≡ drop (f + k) t
     queue-left = rw (append-nil, g .queue, drop-drop) refl
 
-    more : f + k < n
-        → Keeps (outcome (gives (inPhase (w .session) (P.Table (filling n (f + k)))) k A.Go) (paste (w .table) f d k) (w .reply) (w .out))
+    more : f + k < (dbg .size)
+        → Keeps (outcome (gives (inPhase (w .session) (P.Table (filling (dbg .size) (f + k)))) k A.Go) (paste (w .table) f d k) (w .reply) (w .out))
     more h =
         let y : 0 < length d = v .some (omega (arith, queue-length)) in
         record {
@@ -82,17 +82,17 @@ module _ (c : Setting) (a n : ℕ) (x : Filling) (w : Ghost) (g : GoodTable c a 
           fell = omega arith;
         }
 
-    all : n ≤ f + k → Keeps (outcome (gives (inPhase (w .session) (P.Between n 0)) k A.Go) (paste (w .table) f d k) (w .reply) (w .out))
+    all : (dbg .size) ≤ f + k → Keeps (outcome (gives (inPhase (w .session) (P.Between (dbg .size) 0)) k A.Go) (paste (w .table) f d k) (w .reply) (w .out))
     all h =
-        let e : f + k ≡ n = omega arith in
-        let l : length t ≤ n = omega (arith, length-bytesAt (c .mem) a n) in
+        let e : f + k ≡ (dbg .size) = omega arith in
+        let l : length t ≤ (dbg .size) = omega (arith, length-bytesAt (c .mem) (dbg .address) (dbg .size)) in
         record {
           good =
               record {
                 out = g .out;
                 declared = refl;
                 fits = fits-still;
-                table = ap (λ (i : ℕ). take i (paste (w .table) f d k)) (sym e) ∙ filled-more ∙ rw e (take-all n t l);
+                table = ap (λ (i : ℕ). take i (paste (w .table) f d k)) (sym e) ∙ filled-more ∙ rw e (take-all (dbg .size) t l);
                 queue = queue-left ∙ rw e (drop-of-length-le t l);
                 entry = omega arith;
                 reads = omega (arith, g .reads);
@@ -104,5 +104,5 @@ module _ (c : Setting) (a n : ℕ) (x : Filling) (w : Ghost) (g : GoodTable c a 
     pub table : Keeps (tableOf (w .session) x d (w .table) (w .reply) (w .out))
     unfolding tableOf
     table =
-        by-test (ltb (f + k) n) (λ m. via c a n (rw (g .declared, m) refl) (more (ltb-true _ _ m)))
-        (λ m. via c a n (rw (g .declared, m) refl) (all (ltb-false _ _ m)))
+        by-test (ltb (f + k) (dbg .size)) (λ m. via c dbg (rw (g .declared, m) refl) (more (ltb-true _ _ m)))
+        (λ m. via c dbg (rw (g .declared, m) refl) (all (ltb-false _ _ m)))

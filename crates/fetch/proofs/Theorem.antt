@@ -1,60 +1,129 @@
--- The claim of specs/Claim.antt: each own step keeps the invariant by its phase, any other step leaves all as it was, and so, by the laws of lists of
--- steps, the reports are a beginning of the plain host's, and the whole once the own steps number at least `enough`. Assumes nothing.
-use mathlib.Core.Path.{_≡_, refl, sym, ap, _∙_}
+-- The claim of specs/Claim.antt, of the definitions' host: a step lent the run's own things and a delivery keeps the invariant by its phase, a refused one
+-- leaves the world as it was, and so, by the laws of lists of steps, the reports are a beginning of the plain host's, and the whole once the own steps
+-- number at least `enough`. Assumes nothing.
+use mathlib.Core.Path.{_≡_, refl, sym, ap, subst, _∙_}
 use mathlib.Core.Logic.{_⊎_, inl, inr}
-use mathlib.Core.Bool.{true, false, not, _||_}
-use mathlib.Core.List.{List, [], _++_}
-use Prim.Native.Nat.{ℕ, _+_, _-_, _^_, _≤_}
+use mathlib.Core.Bool.{Bool, true, false, not, _&&_, _||_}
+use mathlib.Core.List.{List, [], _++_, append-nil}
+use Prim.Native.Nat.{ℕ, _+_, _-_, _*_, _^_, _≤_, _<_}
 use native.Mathlib.Omega.{arith}
 use native.Mathlib.Nat.{sub-zero}
 use lib.Dec.{ltb, T}
-use lib.ListN.{length}
+use lib.ListN.{length, take}
 use borrow.Author.Tests.{le-ltb, ltb-false, not-false}
 use Rattle.base.specs.Choice.{pick}
 use Rattle.base.proofs.Ranges.{by-test}
 use Rattle.bundle.specs.Bundle.{wellFormed}
-use Rattle.verdict.specs.declared.Opening.{Opening}
 use Rattle.session.specs.declared.Phase.{Phase}
 use Rattle.session.specs.declared.Phase.the-variants as P
+use Rattle.session.specs.declared.Session.{Session}
 use Rattle.session.specs.Outcome.{Outcome, openedWith, isEnded, untouched}
 use Rattle.session.specs.Limits.{readsLimit, phaseLimit, limitOf}
 use Rattle.session.specs.Step.{onPhase, stepOf}
 use Rattle.steps.specs.Steps.{one, FairRun, final, outs, counted}
-use Rattle.steps.proofs.Steps.{beginning, whole, outs-seen, counted-seen, fair-seen}
-use Rattle.fetch.specs.Plain.{Report, Debugged, hear, hosted, plain}
-use Rattle.fetch.specs.Device.{Setting, Turn, own, other, next, reported, aside, Fair, Delivered, isOwn, stepOwn, start}
-use Rattle.fetch.specs.Claim.{Run, reports, owns, enough, Premises, Fetched}
-use Rattle.fetch.proofs.Ghost.{Ghost, seen, follow, seen-follow}
+use Rattle.steps.proofs.Steps.{beginning, whole, outs-related, counted-related, fair-related}
+use Rattle.fetch.specs.Plain.{Report, Debug, Debugged, hear, hosted, tableIn, selectedIn, Setting, heardOf, plain}
+use Rattle.fetch.specs.Device.{
+  Host,
+  definitions,
+  Thing,
+  own,
+  other,
+  Delivery,
+  first,
+  another,
+  Lent,
+  lent,
+  delivered,
+  isOwn,
+  allOwn,
+  kept,
+  left,
+  aside,
+  Delivered,
+  World,
+  start,
+  next,
+  reported,
+  Fair,
+}
+use Rattle.fetch.specs.Claim.{Run, reports, owns, regionBytes, enough, Premises, Fetched, Demand}
+use Rattle.fetch.specs.Meaning.{readsIn, Meant}
+use Rattle.base.proofs.Tests.{and-true, holds, held}
+use Rattle.fetch.proofs.Device.{Came, first-came}
+use Rattle.fetch.proofs.Ghost.{Ghost, seen, afterStep, madeBy, follow}
 use Rattle.fetch.proofs.Invariant.{Good, goodAt, dueAt, dueOf, boundAt, boundOf, Kept, via, cost}
-use Rattle.fetch.proofs.Opening.{never}
-use Rattle.fetch.proofs.Meaning.{Meant, plain-meant}
+use Rattle.fetch.proofs.Cutting.{never}
+use Rattle.fetch.proofs.Meaning.{plain-meant}
 use Rattle.fetch.proofs.Packet
 use Rattle.fetch.proofs.Table
 use Rattle.fetch.proofs.Between
 use Rattle.fetch.proofs.Between.{Safe}
 use Rattle.fetch.proofs.Region
-use Rattle.fetch.proofs.Still.{Quiet, packet-quiet, table-quiet, region-quiet, step-still}
+use Rattle.fetch.proofs.Still.{Quiet, packet-quiet, table-quiet, between-quiet, region-quiet, Still, step-still}
 
 -- the run's own things are well formed, the table ends at or below 2^64, the selected regions can be dumped
-record Ready (c : Setting) (a n : ℕ) : Type 0 where
+record Ready (c : Setting) (dbg : Debug) : Type 0 where
   pub set : wellFormed true (c .set) ≡ true
   pub names : wellFormed false (c .names) ≡ true
-  pub top : a + n ≤ 2 ^ 64
-  pub safe : Safe c a n
+  pub top : dbg .address + dbg .size ≤ 2 ^ 64
+  pub safe : Safe c dbg
 
--- a fair step that is not refused so has a delivery
-came : {X Y : Type 0} → (Y → ⊥) → X ⊎ Y → X
-came q (inl v) = v
-came q (inr u) = absurd (q u)
+-- ---- what is lent
 
-module _ (c : Setting) (a n : ℕ) (x : Ready c a n) where
-  -- ---- one own step; stated by the phase p, so that no equation on the session's phase is put into the session
+-- what is lent and comes back as it was leaves the run's own as it was
+kept-lent : (x : Thing) (b : List ℕ) → kept x b (lent x b) ≡ b
+kept-lent own b = refl
+kept-lent (other y) b = refl
+
+left-none : (d : Delivery) (q : List ℕ) → left d 0 q ≡ q
+left-none (first k) q = refl
+left-none (another d) q = refl
+
+lent-own : (x : Thing) (b : List ℕ) → isOwn x ≡ true → lent x b ≡ b
+lent-own own b e = refl
+lent-own (other y) b e = absurd (let z : _≡_ {A = ℕ} 0 1 = cc in omega arith)
+
+kept-own : (x : Thing) (b r : List ℕ) → isOwn x ≡ true → kept x b r ≡ r
+kept-own own b r e = refl
+kept-own (other y) b r e = absurd (let z : _≡_ {A = ℕ} 0 1 = cc in omega arith)
+
+-- all that is lent is the run's own, but for the delivery
+record Owned (l : Lent) : Type 0 where
+  pub set : isOwn (l .set) ≡ true
+  pub names : isOwn (l .names) ≡ true
+  pub table : isOwn (l .table) ≡ true
+  pub reply : isOwn (l .reply) ≡ true
+  pub out : isOwn (l .out) ≡ true
+
+owned : (l : Lent) → allOwn l ≡ true → Owned l
+owned l e =
+    let a = and-true (isOwn (l .set) && isOwn (l .names) && isOwn (l .table) && isOwn (l .reply)) (isOwn (l .out)) e in
+    let b = and-true (isOwn (l .set) && isOwn (l .names) && isOwn (l .table)) (isOwn (l .reply)) (a .0) in
+    let d = and-true (isOwn (l .set) && isOwn (l .names)) (isOwn (l .table)) (b .0) in
+    let f = and-true (isOwn (l .set)) (isOwn (l .names)) (d .0) in
+    record { set = f .0; names = f .1; table = d .1; reply = b .1; out = a .1 }
+
+-- a delivery of the queue's
+came : (d : Delivery) (q : List ℕ) → Delivered d q → Came (delivered d q) q
+came (first k) q v = first-came k q v
+came (another d) q v = absurd v
+
+left-own : (d : Delivery) (q : List ℕ) (n : ℕ) → Delivered d q → left d n q ≡ left (first 0) n q
+left-own (first k) q n v = refl
+left-own (another d) q n v = absurd v
+
+module _ (c : Setting) (dbg : Debug) (x : Ready c dbg) where
+  -- ---- a step lent the run's own things and bytes d; stated by the phase p, so that no equation on the session's phase is put into the session
 
   -- what the phase p gives
   abbrev at : Ghost → List ℕ → Phase → Outcome
   at w d p = onPhase (w .session) p d (c .set) (c .names) (w .table) (w .reply) (w .out)
 
-  out-ok : (w : Ghost) (p : Phase) → goodAt c a n p w → 48 ≤ length (w .out)
+  abbrev stepOwn : Ghost → List ℕ → Outcome
+  stepOwn w d = stepOf (w .session) d (c .set) (c .names) (w .table) (w .reply) (w .out)
+
+  out-ok : (w : Ghost) (p : Phase) → goodAt c dbg p w → 48 ≤ length (w .out)
   out-ok w (P.Packet h) g = g .out
   out-ok w (P.Response z) g = absurd g
   out-ok w (P.Switched k) g = absurd g
@@ -64,67 +133,171 @@ module _ (c : Setting) (a n : ℕ) (x : Ready c a n) where
   out-ok w (P.Ended k) g = g
 
   -- no count is above its limit
-  within : (w : Ghost) (d : List ℕ) (p : Phase) → goodAt c a n p w
+  within : (w : Ghost) (d : List ℕ) (p : Phase) → goodAt c dbg p w
       → pick (isEnded p) (untouched (w .session) 4 (w .table) (w .reply) (w .out))
       (pick (readsLimit (w .session) || phaseLimit 8 (w .session .window) p (w .table) (w .reply))
       (untouched (w .session) 18 (w .table) (w .reply) (w .out)) (at w d p))
       ≡ at w d p
-  within w d (P.Packet h) g = rw (Packet.limits c a n h w g) refl
+  within w d (P.Packet h) g = rw (Packet.limits c dbg h w g) refl
   within w d (P.Response z) g = absurd g
   within w d (P.Switched k) g = absurd g
-  within w d (P.Table z) g = rw (Table.limits c a n z w g) refl
-  within w d (P.Between k i) g = rw (Between.limits c a n k i w g) refl
-  within w d (P.Region k z) g = rw (Region.limits c a n k z w g) refl
+  within w d (P.Table z) g = rw (Table.limits c dbg z w g) refl
+  within w d (P.Between k i) g = rw (Between.limits c dbg k i w g) refl
+  within w d (P.Region k z) g = rw (Region.limits c dbg k z w g) refl
   within w d (P.Ended k) g = refl
 
-  to-phase : (w : Ghost) (d : List ℕ) → Good c a n w → stepOwn c (seen w) d ≡ at w d (w .session .phase)
+  to-phase : (w : Ghost) (d : List ℕ) → Good c dbg w → stepOwn w d ≡ at w d (w .session .phase)
   unfolding stepOf limitOf
   to-phase w d g =
       let l : ltb (length (w .out)) 48 ≡ false = le-ltb (length (w .out)) 48 (out-ok w (w .session .phase) g) in
       rw (x .set, x .names, l) (within w d (w .session .phase) g)
 
-  by-phase : (w : Ghost) (d : List ℕ) (p : Phase) → w .session .phase ≡ p → goodAt c a n p w
-      → Delivered d (w .queue) ⊎ T (aside (at w d p .stepped .answer))
-      → Kept c a n (dueAt c a n p w) (boundAt c a n p w) w d (at w d p)
-  by-phase w d (P.Packet h) e g v =
-      let q : Quiet (at w d (P.Packet h)) = packet-quiet (w .session) d (c .set) (c .names) (w .table) (w .reply) (w .out) (x .set) h in
-      Packet.packet c a n h w g d (came q v) (x .set) (x .top)
-  by-phase w d (P.Response z) e g v = absurd g
-  by-phase w d (P.Switched k) e g v = absurd g
-  by-phase w d (P.Table z) e g v =
-      let q : Quiet (at w d (P.Table z)) = table-quiet (w .session) d (c .set) (c .names) (w .table) (w .reply) (w .out) z in
-      Table.table c a n z w g d (came q v)
-  by-phase w d (P.Between k i) e g v = Between.between c a n k i w g d (x .safe)
-  by-phase w d (P.Region k z) e g v =
-      let q : Quiet (at w d (P.Region k z)) = region-quiet (w .session) d (c .set) (c .names) (w .table) (w .reply) (w .out) k z in
-      Region.regionKept c a n k z w g d (came q v)
-  by-phase w d (P.Ended k) e g v = record { good = rw e g; told = rw e refl; fell = rw e (omega arith) }
+  by-phase : (w : Ghost) (d : List ℕ) (p : Phase) → goodAt c dbg p w → Came d (w .queue) → aside (at w d p .stepped .answer) ≡ false
+      → Kept c dbg (dueAt c dbg p w) (boundAt c dbg p w) w d (at w d p)
+  by-phase w d (P.Packet h) g v e = Packet.packet c dbg h w g d v (x .top)
+  by-phase w d (P.Response z) g v e = absurd g
+  by-phase w d (P.Switched k) g v e = absurd g
+  by-phase w d (P.Table z) g v e = Table.table c dbg z w g d v
+  by-phase w d (P.Between k i) g v e = Between.between c dbg k i w g d (x .safe)
+  by-phase w d (P.Region k z) g v e = Region.regionKept c dbg k z w g d v
+  by-phase w d (P.Ended k) g v e = absurd (let z : _≡_ {A = ℕ} 0 1 = cc in omega arith)
 
-  own-step : (w : Ghost) (d : List ℕ) → Good c a n w → Fair c (seen w) (own d)
-      → Kept c a n (dueOf c a n w) (boundOf c a n w) w d (stepOwn c (seen w) d)
-  own-step w d g v =
-      let e : stepOwn c (seen w) d ≡ at w d (w .session .phase) = to-phase w d g in
-      via c a n e (by-phase w d (w .session .phase) refl g (rw e at v))
+  own-step : (w : Ghost) (d : List ℕ) → Good c dbg w → Came d (w .queue) → aside (stepOwn w d .stepped .answer) ≡ false
+      → Kept c dbg (dueOf c dbg w) (boundOf c dbg w) w d (stepOwn w d)
+  own-step w d g v e =
+      let f : stepOwn w d ≡ at w d (w .session .phase) = to-phase w d g in
+      via c dbg f (by-phase w d (w .session .phase) g v (rw f at e))
+
+  -- such a step is refused with all untouched only at the end, where no step is left
+  at-end : (w : Ghost) (d : List ℕ) (p : Phase) → goodAt c dbg p w → T (aside (at w d p .stepped .answer)) → boundAt c dbg p w ≡ 0
+  at-end w d (P.Packet h) g e =
+      absurd (packet-quiet (w .session) d (c .set) (c .names) (w .table) (w .reply) (w .out) h e)
+  at-end w d (P.Response z) g e = absurd g
+  at-end w d (P.Switched k) g e = absurd g
+  at-end w d (P.Table z) g e = absurd (table-quiet (w .session) d (c .set) (c .names) (w .table) (w .reply) (w .out) z e)
+  at-end w d (P.Between k i) g e = absurd (between-quiet (w .session) d (c .set) (c .names) (w .table) (w .reply) (w .out) k i e)
+  at-end w d (P.Region k z) g e = absurd (region-quiet (w .session) d (c .set) (c .names) (w .table) (w .reply) (w .out) k z e)
+  at-end w d (P.Ended k) g e = refl
+
+  own-end : (w : Ghost) (d : List ℕ) → Good c dbg w → T (aside (stepOwn w d .stepped .answer)) → boundOf c dbg w ≡ 0
+  own-end w d g e = at-end w d (w .session .phase) g (rw (to-phase w d g) at e)
 
   -- ---- any step
 
-  kept : (w : Ghost) (i : Turn) → Good c a n w → Fair c (seen w) i → Good c a n (follow c w i)
-  kept w (own d) g f = own-step w d g f .good
-  kept w (other d y z t r o) g f = rw (step-still (w .session) d y z t r o f .session) g
+  -- refused with all untouched, it leaves the world as it was and reports nothing
+  module _ (w : Ghost) (l : Lent) (e : T (aside (madeBy c w l .stepped .answer))) where
+    still : Still (w .session) (delivered (l .delivery) (w .queue)) (lent (l .set) (c .set)) (lent (l .names) (c .names))
+        (lent (l .table) (w .table)) (lent (l .reply) (w .reply)) (lent (l .out) (w .out)) (madeBy c w l)
+    still =
+        step-still (w .session) (delivered (l .delivery) (w .queue)) (lent (l .set) (c .set)) (lent (l .names) (c .names)) (lent (l .table) (w .table))
+        (lent (l .reply) (w .reply)) (lent (l .out) (w .out)) e
 
-  due : (w : Ghost) (i : Turn) → Good c a n w → Fair c (seen w) i → dueOf c a n w ≡ reported c (seen w) i ++ dueOf c a n (follow c w i)
-  due w (own d) g f = own-step w d g f .told
-  due w (other d y z t r o) g f = rw (step-still (w .session) d y z t r o f .told, step-still (w .session) d y z t r o f .session) refl
+    refused-so : aside (madeBy c w l .stepped .answer) ≡ true
+    refused-so = holds (aside (madeBy c w l .stepped .answer)) e
 
-  falls : (w : Ghost) (i : Turn) → Good c a n w → Fair c (seen w) i → boundOf c a n (follow c w i) ≤ boundOf c a n w - one (isOwn (seen w) i)
-  falls w (own d) g f = own-step w d g f .fell
-  falls w (other d y z t r o) g f = rw (step-still (w .session) d y z t r o f .session) (omega arith)
+    same-world : follow c w l ≡ w
+    same-world =
+        rw (
+          refused-so,
+          still .same,
+          kept-lent (l .table) (w .table),
+          kept-lent (l .reply) (w .reply),
+          kept-lent (l .out) (w .out),
+          left-none (l .delivery) (w .queue),
+          append-nil (w .queue),
+        )
+        refl
+
+    nothing-told : reported definitions c (seen w) l ≡ []
+    nothing-told = rw (still .same) refl
+
+  -- lent the run's own things and a delivery, and not refused so
+  record Ordinary (w : Ghost) (l : Lent) : Type 0 where
+    pub owns : Owned l
+    pub came : Came (delivered (l .delivery) (w .queue)) (w .queue)
+    pub made : madeBy c w l ≡ stepOwn w (delivered (l .delivery) (w .queue))
+    pub goes : aside (stepOwn w (delivered (l .delivery) (w .queue)) .stepped .answer) ≡ false
+    pub follows : follow c w l ≡ afterStep (c .mem) w (delivered (l .delivery) (w .queue)) (stepOwn w (delivered (l .delivery) (w .queue)))
+
+  made-own : (w : Ghost) (l : Lent) → Owned l → madeBy c w l ≡ stepOwn w (delivered (l .delivery) (w .queue))
+  made-own w l o =
+      rw (
+        lent-own (l .set) (c .set) (o .set),
+        lent-own (l .names) (c .names) (o .names),
+        lent-own (l .table) (w .table) (o .table),
+        lent-own (l .reply) (w .reply) (o .reply),
+        lent-own (l .out) (w .out) (o .out),
+      )
+      refl
+
+  follow-own : (w : Ghost) (l : Lent) → Owned l → Delivered (l .delivery) (w .queue)
+      → aside (madeBy c w l .stepped .answer) ≡ false → madeBy c w l ≡ stepOwn w (delivered (l .delivery) (w .queue))
+      → follow c w l ≡ afterStep (c .mem) w (delivered (l .delivery) (w .queue)) (stepOwn w (delivered (l .delivery) (w .queue)))
+  follow-own w l o v e m =
+      let r : Outcome = madeBy c w l in
+      rw (
+        e,
+        kept-own (l .table) (w .table) (r .table) (o .table),
+        kept-own (l .reply) (w .reply) (r .reply) (o .reply),
+        kept-own (l .out) (w .out) (r .out) (o .out),
+        left-own (l .delivery) (w .queue) (r .stepped .taken) v,
+        m,
+      )
+      refl
+
+  ordinary : (w : Ghost) (l : Lent) → Fair definitions c (seen w) l → aside (madeBy c w l .stepped .answer) ≡ false → Ordinary w l
+  ordinary w l (inl p) e =
+      let o : Owned l = owned l (holds (allOwn l) (p .0)) in
+      let m : madeBy c w l ≡ stepOwn w (delivered (l .delivery) (w .queue)) = made-own w l o in
+      record {
+        owns = o;
+        came = came (l .delivery) (w .queue) (p .1);
+        made = m;
+        goes = rw m at e;
+        follows = follow-own w l o (p .1) e m;
+      }
+  ordinary w l (inr h) e = absurd (rw e at h)
+
+  keeps : (w : Ghost) (l : Lent) → Good c dbg w → (y : Ordinary w l)
+      → Kept c dbg (dueOf c dbg w) (boundOf c dbg w) w (delivered (l .delivery) (w .queue)) (stepOwn w (delivered (l .delivery) (w .queue)))
+  keeps w l g y = own-step w (delivered (l .delivery) (w .queue)) g (y .came) (y .goes)
+
+  good-kept : (w : Ghost) (l : Lent) → Good c dbg w → Fair definitions c (seen w) l → Good c dbg (follow c w l)
+  good-kept w l g f =
+      by-test (aside (madeBy c w l .stepped .answer)) (λ e. rw (same-world w l (held _ e)) g)
+      (λ e. let y : Ordinary w l = ordinary w l f e in rw (y .follows) (keeps w l g y .good))
+
+  due : (w : Ghost) (l : Lent) → Good c dbg w → Fair definitions c (seen w) l
+      → dueOf c dbg w ≡ reported definitions c (seen w) l ++ dueOf c dbg (follow c w l)
+  due w l g f =
+      by-test (aside (madeBy c w l .stepped .answer)) (λ e. rw (nothing-told w l (held _ e), same-world w l (held _ e)) refl)
+      (λ e.
+      let y : Ordinary w l = ordinary w l f e in
+      rw (y .follows, y .made, lent-own (l .set) (c .set) (y .owns .set)) (keeps w l g y .told))
+
+  refused-end : (w : Ghost) (l : Lent) → Good c dbg w → T (aside (madeBy c w l .stepped .answer)) → (b : Bool) → allOwn l ≡ b
+      → boundOf c dbg w ≤ boundOf c dbg w - one b
+  refused-end w l g e true o =
+      omega (arith, own-end w (delivered (l .delivery) (w .queue)) g (rw (made-own w l (owned l o)) at e))
+  refused-end w l g e false o = omega arith
+
+  falls : (w : Ghost) (l : Lent) → Good c dbg w → Fair definitions c (seen w) l → boundOf c dbg (follow c w l) ≤ boundOf c dbg w - one (allOwn l)
+  falls w l g f =
+      by-test (aside (madeBy c w l .stepped .answer))
+      (λ e. rw (same-world w l (held _ e)) (refused-end w l g (held _ e) (allOwn l) refl))
+      (λ e.
+      let y : Ordinary w l = ordinary w l f e in
+      rw (y .follows) (at-most (allOwn l) _ _ (keeps w l g y .fell)))
+    where
+      at-most : (b : Bool) (i j : ℕ) → i ≤ j - 1 → i ≤ j - one b
+      at-most true i j h = h
+      at-most false i j h = omega arith
 
   -- nothing is due where no own step is left
-  empty : (w : Ghost) → Good c a n w → boundOf c a n w ≡ 0 → dueOf c a n w ≡ []
+  empty : (w : Ghost) → Good c dbg w → boundOf c dbg w ≡ 0 → dueOf c dbg w ≡ []
   empty w g h = go (w .session .phase) h
     where
-      go : (p : Phase) → boundAt c a n p w ≡ 0 → dueAt c a n p w ≡ []
+      go : (p : Phase) → boundAt c dbg p w ≡ 0 → dueAt c dbg p w ≡ []
       go (P.Packet k) e = absurd (omega arith)
       go (P.Response z) e = refl
       go (P.Switched k) e = refl
@@ -136,21 +309,20 @@ module _ (c : Setting) (a n : ℕ) (x : Ready c a n) where
 -- ---- the start
 
 -- the plain host that comes so far was lent sound things
-record Lent (u : Opening) (c : Setting) (t y o s : List ℕ) : Type 0 where
+record Sound (c : Setting) : Type 0 where
   pub set : wellFormed true (c .set) ≡ true
   pub names : wellFormed false (c .names) ≡ true
-  pub out : 48 ≤ length o
-  pub opens : hosted u (c .set) (c .names) (length t) (length y) (length o) s ≡ hear u (c .set) (length t) (length y) (length s) s
+  pub out : 48 ≤ length (c .out)
+  pub opens : heardOf c ≡ hear (c .opening) (c .set) (length (c .table)) (length (c .reply)) (length (c .bytes)) (c .bytes)
 
-lent : (u : Opening) (c : Setting) (t y o s : List ℕ) (a n : ℕ)
-    → hosted u (c .set) (c .names) (length t) (length y) (length o) s .ending ≡ Debugged a n [] → Lent u c t y o s
+sound-things : (c : Setting) (dbg : Debug) → heardOf c .ending ≡ Debugged dbg [] → Sound c
 unfolding hosted
-lent u c t y o s a n h =
-    by-test (not (wellFormed true (c .set))) (λ e. never a n [] (rw e at h))
+sound-things c dbg h =
+    by-test (not (wellFormed true (c .set))) (λ e. never dbg [] (rw e at h))
     (λ e.
-    by-test (not (wellFormed false (c .names))) (λ m. never a n [] (rw (e, m) at h))
+    by-test (not (wellFormed false (c .names))) (λ m. never dbg [] (rw (e, m) at h))
     (λ m.
-    by-test (ltb (length o) 48) (λ i. never a n [] (rw (e, m, i) at h))
+    by-test (ltb (length (c .out)) 48) (λ i. never dbg [] (rw (e, m, i) at h))
     (λ i.
     record {
       set = not-false (wellFormed true (c .set)) e;
@@ -159,18 +331,18 @@ lent u c t y o s a n h =
       opens = rw (e, m, i) refl;
     })))
 
-module _ (u : Opening) (c : Setting) (t y o s : List ℕ) (a n : ℕ) (p : Premises u c t y o s a n) where
-  things : Lent u c t y o s
-  things = lent u c t y o s a n (p .opens)
+module _ (c : Setting) (dbg : Debug) (p : Premises c dbg) where
+  things : Sound c
+  things = sound-things c dbg (p .opens)
 
-  x : Ready c a n
+  x : Ready c dbg
   x = record { set = things .set; names = things .names; top = p .top; safe = p .regions }
 
   -- no packet is held
   abbrev w₀ : Ghost
-  w₀ = record { session = openedWith u; table = t; reply = y; out = o; queue = s; back = [] }
+  w₀ = record { session = openedWith (c .opening); table = c .table; reply = c .reply; out = c .out; queue = c .bytes; back = [] }
 
-  good : Good c a n w₀
+  good : Good c dbg w₀
   good =
       record {
         out = things .out;
@@ -183,51 +355,70 @@ module _ (u : Opening) (c : Setting) (t y o s : List ℕ) (a n : ℕ) (p : Premi
       }
 
   -- what is due at the start is the plain host's whole report, and the bound is the count of 01
-  whole-due : dueOf c a n w₀ ≡ plain u (c .mem) (c .set) (c .names) (length t) (length y) (length o) s
+  whole-due : dueOf c dbg w₀ ≡ plain c
   unfolding plain
   whole-due = rw (things .opens) refl
 
-  bound : boundOf c a n w₀ ≡ enough u (c .mem) (c .names) s a n
+  bound : boundOf c dbg w₀ ≡ enough c dbg
   unfolding enough cost
   bound = rw sub-zero (omega arith)
 
   -- the list of steps with the bytes held
-  module _ (is : List Turn) (f : Run c (start u t y o s) is) where
-    fair : FairRun (follow c) (λ w i. Fair c (seen w) i) w₀ is
-    fair = fair-seen (follow c) (next c) seen (seen-follow c) (Fair c) is w₀ f
+  abbrev Sees : Ghost → World Session → Type 0
+  Sees w v = seen w ≡ v
 
-    same-reports : outs (follow c) (λ w i. reported c (seen w) i) w₀ is ≡ reports c (start u t y o s) is
-    same-reports = outs-seen (follow c) (next c) seen (seen-follow c) (reported c) is w₀
+  sees-kept : (w : Ghost) (v : World Session) (l : Lent) → Sees w v → Sees (follow c w l) (next definitions c v l)
+  sees-kept w v l e = ap (λ (z : World Session). next definitions c z l) e
 
-    same-count : counted (follow c) (λ w i. isOwn (seen w) i) w₀ is ≡ owns c (start u t y o s) is
-    same-count = counted-seen (follow c) (next c) seen (seen-follow c) isOwn is w₀
+  module _ (ls : List Lent) (f : Run definitions c (start definitions c) ls) where
+    fair : FairRun (follow c) (λ w l. Fair definitions c (seen w) l) w₀ ls
+    fair =
+        fair-related (follow c) (next definitions c) Sees sees-kept (λ w l. Fair definitions c (seen w) l) (Fair definitions c)
+        (λ w v l e h. subst (λ (z : World Session). Fair definitions c z l) (sym e) h) ls w₀ (start definitions c) refl f
 
-    begins : (l : List Report) × (plain u (c .mem) (c .set) (c .names) (length t) (length y) (length o) s ≡ reports c (start u t y o s) is ++ l)
+    same-reports : outs (follow c) (λ w l. reported definitions c (seen w) l) w₀ ls ≡ reports definitions c (start definitions c) ls
+    same-reports =
+        outs-related (follow c) (next definitions c) Sees sees-kept (λ w l. reported definitions c (seen w) l) (reported definitions c)
+        (λ w v l e. ap (λ (z : World Session). reported definitions c z l) e) ls w₀ (start definitions c) refl
+
+    same-count : counted (follow c) (λ w l. allOwn l) w₀ ls ≡ owns definitions c (start definitions c) ls
+    same-count =
+        counted-related (follow c) (next definitions c) Sees sees-kept (λ w l. allOwn l) (λ w l. allOwn l) (λ w v l e. refl) ls w₀
+        (start definitions c) refl
+
+    begins : (l : List Report) × (plain c ≡ reports definitions c (start definitions c) ls ++ l)
     begins = (
-      dueOf c a n (final (follow c) w₀ is),
+      dueOf c dbg (final (follow c) w₀ ls),
       sym whole-due
-          ∙ beginning (follow c) (λ w i. reported c (seen w) i) (λ w i. Fair c (seen w) i) (Good c a n) (dueOf c a n) (kept c a n x) (due c a n x)
-          is w₀ good fair
-          ∙ ap (λ (l : List Report). l ++ dueOf c a n (final (follow c) w₀ is)) same-reports,
+          ∙ beginning (follow c) (λ w l. reported definitions c (seen w) l) (λ w l. Fair definitions c (seen w) l) (Good c dbg) (dueOf c dbg)
+          (good-kept c dbg x) (due c dbg x) ls w₀ good fair
+          ∙ ap (λ (l : List Report). l ++ dueOf c dbg (final (follow c) w₀ ls)) same-reports,
     )
 
-    completes : enough u (c .mem) (c .names) s a n ≤ owns c (start u t y o s) is
-        → reports c (start u t y o s) is ≡ plain u (c .mem) (c .set) (c .names) (length t) (length y) (length o) s
+    completes : enough c dbg ≤ owns definitions c (start definitions c) ls → reports definitions c (start definitions c) ls ≡ plain c
     completes h =
         sym same-reports
         ∙ sym
-        (whole (follow c) (λ w i. reported c (seen w) i) (λ w i. Fair c (seen w) i) (Good c a n) (dueOf c a n) (kept c a n x) (due c a n x)
-        (λ w i. isOwn (seen w) i) (boundOf c a n) (falls c a n x) (empty c a n x) is w₀ good fair (rw (bound, same-count) h))
+        (whole (follow c) (λ w l. reported definitions c (seen w) l) (λ w l. Fair definitions c (seen w) l) (Good c dbg) (dueOf c dbg)
+        (good-kept c dbg x) (due c dbg x) (λ w l. allOwn l) (boundOf c dbg) (falls c dbg x) (empty c dbg x) ls w₀ good fair (rw (bound, same-count) h))
         ∙ whole-due
 
 -- ---- the theorem
 
-pub fetch : (u : Opening) (c : Setting) (t y o s : List ℕ) (a n : ℕ) → Premises u c t y o s a n → (is : List Turn) → Run c (start u t y o s) is
-    → Fetched u c t y o s a n is
-fetch u c t y o s a n p is f = record { begins = begins u c t y o s a n p is f; whole = completes u c t y o s a n p is f }
+pub fetch : Demand definitions
+fetch c dbg p ls f = record { begins = begins c dbg p ls f; whole = completes c dbg p ls f }
 
--- so each selected region came out in table order, byte for byte as the memory holds it, and the end told one memory read for the table, one a chunk
-pub means : (u : Opening) (c : Setting) (t y o s : List ℕ) (a n : ℕ) → Premises u c t y o s a n → (is : List Turn) → Run c (start u t y o s) is
-    → enough u (c .mem) (c .names) s a n ≤ owns c (start u t y o s) is → Meant u c a n (reports c (start u t y o s) is)
-means u c t y o s a n p is f h =
-    rw (fetch u c t y o s a n p is f .whole h) (plain-meant u c (length t) (length y) (length o) s a n [] (p .opens))
+-- so, of any host of which it holds, each selected region came out in table order, byte for byte as the memory holds it, and the end told one memory read
+-- for the table, one a chunk
+pub means : (h : Host) → Demand h → (c : Setting) (dbg : Debug) → Premises c dbg → (ls : List Lent) → Run h c (start h c) ls
+    → enough c dbg ≤ owns h c (start h c) ls → Meant c dbg (reports h c (start h c) ls)
+means h d c dbg p ls f e = rw (d c dbg p ls f .whole e) (plain-meant c dbg [] (p .opens))
+
+-- the count of 01, the memory reads counted in the plain host's own report
+pub enough-counts : (c : Setting) (dbg : Debug) → Premises c dbg
+    → enough c dbg
+    ≡ length (c .bytes) + dbg .size + regionBytes 8 (tableIn (c .mem) dbg) (selectedIn 8 (c .mem) (c .names) dbg)
+    + 2 * length (selectedIn 8 (c .mem) (c .names) dbg)
+    + 2 * readsIn (plain c)
+unfolding enough
+enough-counts c dbg p = rw (plain-meant c dbg [] (p .opens) .reads) refl

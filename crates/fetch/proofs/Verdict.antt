@@ -1,18 +1,21 @@
--- The verdict on a packet: its first 48 bytes say the same, and what it gives is sane, by cases of what is decoded.
+-- The verdict on a packet is sane, by cases of what is decoded.
 -- Assumes nothing.
-use mathlib.Core.Path.{_≡_, refl, ap}
+use mathlib.Core.Path.{_≡_, refl}
 use mathlib.Core.Bool.{Bool, true, false}
 use mathlib.Core.List.{List}
 use Prim.Native.Nat.{ℕ, _+_, _≤_}
+use native.Mathlib.Omega.{arith}
 use lib.Dec.{ltb, leb, eqb}
 use lib.ListN.{length, take}
 use borrow.Author.Tests.{ltb-false}
 use Rattle.base.specs.Choice.{pick}
-use Rattle.bundle.specs.Bundle.{wellFormed, countOf, slotOf}
+use Rattle.bundle.specs.Bundle.{countOf, slotOf}
 use Rattle.bundle.specs.declared.Slot.{Slot}
 use Rattle.bundle.specs.declared.Slot.the-variants as S
-use Rattle.image.specs.Image.{slotFor, rangeIn, rangeOf}
+use Rattle.image.specs.Image.{slotFor, rangeIn, rangeUnjudged}
+use Rattle.image.specs.declared.ImageRange.{ImageRange}
 use Rattle.image.specs.declared.ImageRange.the-variants as R
+use Rattle.image.proofs.Laws.{unjudged-within}
 use Rattle.command.specs.Command.{classOf}
 use Rattle.command.specs.declared.Class.{Class}
 use Rattle.command.specs.declared.Class.the-variants as C
@@ -23,8 +26,7 @@ use Rattle.packet.specs.declared.SaharaPacketBody.{SaharaPacketBody}
 use Rattle.packet.specs.declared.SaharaPacketBody.the-variants as B
 use Rattle.packet.specs.declared.Decoded.{Decoded}
 use Rattle.packet.specs.declared.Decoded.the-variants as D
-use Rattle.packet.proofs.Laws.{window}
-use Rattle.verdict.specs.Verdict.{imageFor, executeFor, oneSlot, room, onBody, onDecoded, verdictOf}
+use Rattle.verdict.specs.Verdict.{imageFor, executeFor, room, onBody, onDecoded, verdictOf}
 use Rattle.verdict.specs.declared.ExecCommand.{ExecCommand}
 use Rattle.verdict.specs.declared.ExecCommand.the-variants as X
 use Rattle.verdict.specs.declared.Opening.{Opening}
@@ -32,14 +34,8 @@ use Rattle.verdict.specs.declared.Verdict.{Verdict}
 use Rattle.verdict.specs.declared.Verdict.the-variants as W
 use Rattle.session.specs.declared.Answer.the-variants as A
 use Rattle.fetch.specs.Device.{aside}
-use Rattle.fetch.proofs.Basics.{split}
+use Rattle.base.proofs.Tests.{split}
 use Rattle.fetch.proofs.Sent.{asks}
-
--- the first 48 bytes of a packet say what the whole packet says
-pub verdict-window : (u : Opening) (set : List ℕ) (tsize rsize : ℕ) (p : List ℕ)
-    → verdictOf u set tsize rsize (take 48 p) ≡ verdictOf u set tsize rsize p
-unfolding verdictOf
-verdict-window u set tsize rsize p = ap (onDecoded u set tsize rsize) (window p)
 
 -- a refusal is none of those that leave all untouched
 abbrev pub Ends : ℕ → Type 0
@@ -65,33 +61,38 @@ decoded-sane : (p : List ℕ) → DecodedSane (decodeOf p)
 unfolding decodeOf
 decoded-sane p = split DecodedSane (ltb (length p) 8) (λ e. refl) (λ e. class-sane p (classOf (commandField p)))
 
--- ---- what the verdict gives, the image set being well formed: a reply is no memory read; a table fits its room; a refusal ends the session
+-- ---- what the verdict gives, of any image set: a reply is no memory read; an image lies within the set; a table fits its room; a
+-- refusal ends the session
 
-abbrev pub Sane : ℕ → Verdict → Type 0
-Sane tsize (W.Reply q) = asks q ≡ false
-Sane tsize (W.Image x k) = Unit
-Sane tsize W.Pass = Unit
-Sane tsize (W.Finish how) = Unit
-Sane tsize (W.Respond c k) = Unit
-Sane tsize (W.Debug a k) = k ≤ room tsize
-Sane tsize (W.Refused why) = Ends why
+abbrev pub Sane : List ℕ → ℕ → Verdict → Type 0
+Sane set tsize (W.Reply q) = asks q ≡ false
+Sane set tsize (W.Image x k) = x + k ≤ length set
+Sane set tsize W.Pass = Unit
+Sane set tsize (W.Finish how) = Unit
+Sane set tsize (W.Respond c k) = Unit
+Sane set tsize (W.Debug a k) = k ≤ room tsize
+Sane set tsize (W.Refused why) = Ends why
 
-module _ (u : Opening) (set : List ℕ) (tsize rsize : ℕ) (good : wellFormed true set ≡ true) where
+module _ (u : Opening) (set : List ℕ) (tsize rsize : ℕ) where
   abbrev Fine : Verdict → Type 0
-  Fine v = Sane tsize v
+  Fine v = Sane set tsize v
 
-  slot-sane : (s : Slot) (offset len : ℕ) → Fine (imageFor (rangeIn s offset len))
-  slot-sane (S.At start size) offset len = go (leb (offset + len) size)
+  -- a range that is refused is so with 12 or 13
+  slot-refused : (s : Slot) (offset len why : ℕ) → rangeIn s offset len ≡ R.Refused why → Ends why
+  slot-refused (S.At start size) offset len why e = go (leb (offset + len) size) e
     where
-      go : (b : Bool) → Fine (imageFor (pick b (R.At (start + offset) len) (R.Refused 13)))
-      go true = tt
-      go false = refl
-  slot-sane S.Absent offset len = refl
-  slot-sane S.Missing offset len = refl
+      go : (b : Bool) → pick b (R.At (start + offset) len) (R.Refused 13) ≡ R.Refused why → Ends why
+      go true h = absurd (let z : _≡_ {A = ℕ} 0 1 = cc in omega arith)
+      go false h = let z : why ≡ 13 = cc in rw z refl
+  slot-refused S.Absent offset len why e = let z : why ≡ 12 = cc in rw z refl
+  slot-refused S.Missing offset len why e = let z : why ≡ 12 = cc in rw z refl
 
-  image-sane : (id offset len : ℕ) → Fine (imageFor (rangeOf set id offset len))
-  unfolding rangeOf
-  image-sane id offset len = rw good (slot-sane (slotOf set (slotFor (countOf set) id)) offset len)
+  image-sane : (id offset len : ℕ) → Fine (imageFor (rangeUnjudged set id offset len))
+  image-sane id offset len = go (rangeUnjudged set id offset len) refl
+    where
+      go : (r : ImageRange) → rangeUnjudged set id offset len ≡ r → Fine (imageFor r)
+      go (R.At x k) e = unjudged-within set id offset len x k e .0
+      go (R.Refused why) e = slot-refused (slotOf set (slotFor (countOf set) id)) offset len why e
 
   execute-sane : (c : ExecCommand) → Fine (executeFor c)
   execute-sane (X.Is c) = refl
@@ -103,7 +104,7 @@ module _ (u : Opening) (set : List ℕ) (tsize rsize : ℕ) (good : wellFormed t
   on-body len (B.ReadReq b) = split Fine (eqb len 20) (λ e. image-sane (b .image) (b .offset) (b .len)) (λ e. refl)
   on-body len (B.Eoi b) = split Fine (eqb len 16) (λ e. split Fine (eqb (b .status) 0) (λ i. refl) (λ i. refl)) (λ e. refl)
   on-body len B.DoneReq = refl
-  on-body len (B.DoneResp b) = split Fine (eqb (b .status) 1) (λ e. tt) (λ e. split Fine (oneSlot set) (λ i. tt) (λ i. tt))
+  on-body len (B.DoneResp b) = split Fine (eqb (b .status) 1) (λ e. tt) (λ e. split Fine (eqb (countOf set) 1) (λ i. tt) (λ i. tt))
   on-body len B.ResetResp = split Fine (eqb len 8) (λ e. tt) (λ e. refl)
   on-body len B.CommandReady = split Fine (eqb len 8) (λ e. execute-sane (u .command)) (λ e. refl)
   on-body len (B.ExecResp b) = split Fine (ltb rsize (b .len)) (λ e. refl) (λ e. tt)
@@ -117,6 +118,6 @@ module _ (u : Opening) (set : List ℕ) (tsize rsize : ℕ) (good : wellFormed t
   on-decoded (D.Is p) e = on-body (p .len) (p .body)
   on-decoded (D.Refused why) e = e
 
-  pub sane : (p : List ℕ) → Sane tsize (verdictOf u set tsize rsize p)
+  pub sane : (p : List ℕ) → Sane set tsize (verdictOf u set tsize rsize p)
   unfolding verdictOf
   sane p = on-decoded (decodeOf p) (decoded-sane p)

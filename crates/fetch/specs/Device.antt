@@ -1,45 +1,104 @@
--- The device and the run: session, the run's own buffers and the device's queue, from step to step, and what each step reports. Document 01, "Demand 3's
--- list": "A true device queues its opening bytes, then the memory's bytes for each memory read sent; bytes taken leave the queue."
+-- Any host before a true device: the world of a run, from step to step, and what each step reports. Document 01, "Demand 3's list": "A true device queues
+-- its opening bytes, then the memory's bytes for each memory read sent; bytes taken leave the queue." The host is a parameter: `definitions` below is the
+-- one of session/specs/Step, others are in specs/Wrong and, as numbers, in the crate `fetch_raw`.
 use Prim.Native.Nat.{ℕ, _<_}
-use mathlib.Core.Path.{_≡_}
 use mathlib.Core.Logic.{_⊎_}
-use mathlib.Core.Bool.{Bool, true, false, _||_}
+use mathlib.Core.Bool.{Bool, true, false, _&&_, _||_}
 use mathlib.Core.List.{List, [], _∷_, _++_, map}
 use lib.Dec.{eqb, T}
 use lib.ListN.{length, take, drop}
 use Rattle.base.specs.Choice.{pick}
-use Rattle.command.specs.Command.{kindNumber}
-use Rattle.command.specs.declared.SaharaCmd.the-variants as K
-use Rattle.packet.specs.Packet.{commandField, long}
+use Rattle.packet.specs.Packet.{long}
 use Rattle.verdict.specs.declared.Opening.{Opening}
 use Rattle.session.specs.declared.Session.{Session}
 use Rattle.session.specs.declared.Answer.{Answer}
 use Rattle.session.specs.declared.Answer.the-variants as A
 use Rattle.session.specs.Outcome.{Outcome, openedWith}
 use Rattle.session.specs.Step.{stepOf}
-use Rattle.fetch.specs.Plain.{Report, sent, image, opened, byte, emptyRead, closed, finished, bytesAt}
+use Rattle.fetch.specs.Plain.{Report, sent, image, opened, byte, emptyRead, closed, finished, isRead, bytesAt, Setting}
 
--- what stays the same in a run: the device's memory, and the run's own image set and names
-pub record Setting : Type 0 where
-  pub mem : ℕ → ℕ
-  pub set : List ℕ
-  pub names : List ℕ
+-- ---- a host
 
--- the session, the run's own buffers and the device's queue
-pub record World : Type 0 where
-  pub session : Session
+-- what a step gives: the next state, the bytes taken, the answer, and each lent buffer as it is afterwards
+pub record Given (S : Type 0) : Type 0 where
+  pub state : S
+  pub taken : ℕ
+  pub answer : Answer
   pub table : List ℕ
   pub reply : List ℕ
   pub out : List ℕ
-  pub queue : List ℕ
 
--- a fresh session, the run's buffers t, y, o, and the opening bytes s queued
-abbrev pub start : Opening → List ℕ → List ℕ → List ℕ → List ℕ → World
-start u t y o s = record { session = openedWith u; table = t; reply = y; out = o; queue = s }
+-- its states, how it is opened, and one step: state, delivery, image set, names, table, reply and out buffers
+pub record Host : Type 1 where
+  pub State : Type 0
+  pub fresh : Opening → State
+  pub step : State → List ℕ → List ℕ → List ℕ → List ℕ → List ℕ → List ℕ → Given State
+
+abbrev pub givenOf : Outcome → Given Session
+givenOf r =
+    record {
+      state = r .stepped .session;
+      taken = r .stepped .taken;
+      answer = r .stepped .answer;
+      table = r .table;
+      reply = r .reply;
+      out = r .out;
+    }
+
+-- the host of the definitions
+abbrev pub definitions : Host
+definitions = record { State = Session; fresh = openedWith; step = λ s d set names t y o. givenOf (stepOf s d set names t y o) }
+
+-- ---- what a step is lent
+
+-- the image set, the names, a buffer: the run's own, or another
+pub data Thing : Type 0 where
+  own : Thing
+  other : List ℕ → Thing
+
+-- the first k bytes of the queue, or any other bytes
+pub data Delivery : Type 0 where
+  first : ℕ → Delivery
+  another : List ℕ → Delivery
+
+pub record Lent : Type 0 where
+  pub delivery : Delivery
+  pub set : Thing
+  pub names : Thing
+  pub table : Thing
+  pub reply : Thing
+  pub out : Thing
+
+-- the bytes that are lent, x being the run's own; q the queue
+abbrev pub lent : Thing → List ℕ → List ℕ
+lent own x = x
+lent (other y) x = y
+
+abbrev pub delivered : Delivery → List ℕ → List ℕ
+delivered (first k) q = take k q
+delivered (another d) q = d
+
+-- "the steps lent the run's own image set, names and buffers"
+abbrev pub isOwn : Thing → Bool
+isOwn own = true
+isOwn (other x) = false
+
+abbrev pub allOwn : Lent → Bool
+allOwn l = isOwn (l .set) && isOwn (l .names) && isOwn (l .table) && isOwn (l .reply) && isOwn (l .out)
+
+-- ---- the world after a step: what is the run's own takes what the outcome left in it, and the bytes taken leave the queue where the delivery is its
+
+abbrev pub kept : Thing → List ℕ → List ℕ → List ℕ
+kept own before after = after
+kept (other x) before after = before
+
+abbrev pub left : Delivery → ℕ → List ℕ → List ℕ
+left (first k) taken q = drop taken q
+left (another d) taken q = q
 
 -- what the device queues when a packet is sent: the memory's bytes, where it is a memory read
 unfoldable pub served : (ℕ → ℕ) → List ℕ → List ℕ
-served mem p = pick (eqb (commandField p) (kindNumber K.MemRead64)) (bytesAt mem (long p 0) (long p 1)) []
+served mem p = pick (isRead p) (bytesAt mem (long p 0) (long p 1)) []
 
 abbrev pub queued : (ℕ → ℕ) → Answer → List ℕ → List ℕ
 queued mem A.Go o = []
@@ -54,50 +113,16 @@ queued mem (A.Refused why) o = []
 
 -- "Steps report in order what they sent, an image's bytes, each byte handed out alone, open, empty read, close, and finished with the memory reads; go
 -- and refusals report nothing": by the answer, the delivery, the image set and the out buffer
-abbrev pub told : Answer → List ℕ → List ℕ → List ℕ → List Report
-told A.Go d set o = []
-told (A.Send k) d set o = sent (take k o) ∷ []
-told (A.Image x k) d set o = image (take k (drop x set)) ∷ []
-told (A.Open i) d set o = opened i ∷ []
-told (A.Bytes k) d set o = map byte (take k d)
-told A.EmptyRead d set o = emptyRead ∷ []
-told (A.Close i) d set o = closed i ∷ []
-told (A.Finished how r) d set o = finished how r ∷ []
-told (A.Refused why) d set o = []
-
-abbrev pub toldBy : Outcome → List ℕ → List ℕ → List Report
-toldBy r d set = told (r .stepped .answer) d set (r .out)
-
--- a step lent the run's own things and a delivery; or a step lent anything: delivery, image set, names, table, reply and out buffers
-pub data Turn : Type 0 where
-  own : List ℕ → Turn
-  other : List ℕ → List ℕ → List ℕ → List ℕ → List ℕ → List ℕ → Turn
-
-abbrev pub stepOwn : Setting → World → List ℕ → Outcome
-stepOwn c w d = stepOf (w .session) d (c .set) (c .names) (w .table) (w .reply) (w .out)
-
-abbrev pub next : Setting → World → Turn → World
-next c w (own d) =
-    let r = stepOwn c w d in
-    record {
-      session = r .stepped .session;
-      table = r .table;
-      reply = r .reply;
-      out = r .out;
-      queue = drop (r .stepped .taken) (w .queue) ++ queued (c .mem) (r .stepped .answer) (r .out);
-    }
-next c w (other d x z t y o) =
-    record {
-      session = stepOf (w .session) d x z t y o .stepped .session;
-      table = w .table;
-      reply = w .reply;
-      out = w .out;
-      queue = w .queue;
-    }
-
-abbrev pub reported : Setting → World → Turn → List Report
-reported c w (own d) = toldBy (stepOwn c w d) d (c .set)
-reported c w (other d x z t y o) = toldBy (stepOf (w .session) d x z t y o) d x
+abbrev pub reportsFor : Answer → List ℕ → List ℕ → List ℕ → List Report
+reportsFor A.Go d set o = []
+reportsFor (A.Send k) d set o = sent (take k o) ∷ []
+reportsFor (A.Image x k) d set o = image (take k (drop x set)) ∷ []
+reportsFor (A.Open i) d set o = opened i ∷ []
+reportsFor (A.Bytes k) d set o = map byte (take k d)
+reportsFor A.EmptyRead d set o = emptyRead ∷ []
+reportsFor (A.Close i) d set o = closed i ∷ []
+reportsFor (A.Finished how r) d set o = finished how r ∷ []
+reportsFor (A.Refused why) d set o = []
 
 -- "A step refused with 1, 2, 3, 4 or 18 may be lent anything, any delivery included."
 abbrev pub aside : Answer → Bool
@@ -112,16 +137,42 @@ aside (A.Finished how r) = false
 aside (A.Refused why) = eqb why 1 || eqb why 2 || eqb why 3 || eqb why 4 || eqb why 18
 
 -- "A delivery is a non-empty beginning of the queue, empty only when nothing is queued."
-pub record Delivered (d q : List ℕ) : Type 0 where
-  pub begins : d ≡ take (length d) q
-  pub some : 0 < length q → 0 < length d
+abbrev pub Delivered : Delivery → List ℕ → Type 0
+Delivered (first k) q = 0 < length q → 0 < k
+Delivered (another d) q = ⊥
 
--- an own step has a delivery, unless it is refused so; any other step is refused so
-abbrev pub Fair : Setting → World → Turn → Type 0
-Fair c w (own d) = Delivered d (w .queue) ⊎ T (aside (stepOwn c w d .stepped .answer))
-Fair c w (other d x z t y o) = T (aside (stepOf (w .session) d x z t y o .stepped .answer))
+-- the host's state, the run's own buffers and the device's queue
+pub record World (S : Type 0) : Type 0 where
+  pub state : S
+  pub table : List ℕ
+  pub reply : List ℕ
+  pub out : List ℕ
+  pub queue : List ℕ
 
--- "the steps lent the run's own image set, names and buffers"
-abbrev pub isOwn : World → Turn → Bool
-isOwn w (own d) = true
-isOwn w (other d x z t y o) = false
+module _ (h : Host) (c : Setting) where
+  -- a fresh session, the run's buffers, and the opening bytes queued
+  abbrev pub start : World (h .State)
+  start = record { state = h .fresh (c .opening); table = c .table; reply = c .reply; out = c .out; queue = c .bytes }
+
+  abbrev pub made : World (h .State) → Lent → Given (h .State)
+  made w l =
+      h .step (w .state) (delivered (l .delivery) (w .queue)) (lent (l .set) (c .set)) (lent (l .names) (c .names)) (lent (l .table) (w .table))
+      (lent (l .reply) (w .reply)) (lent (l .out) (w .out))
+
+  abbrev pub next : World (h .State) → Lent → World (h .State)
+  next w l =
+      let r = made w l in
+      record {
+        state = r .state;
+        table = kept (l .table) (w .table) (r .table);
+        reply = kept (l .reply) (w .reply) (r .reply);
+        out = kept (l .out) (w .out) (r .out);
+        queue = left (l .delivery) (r .taken) (w .queue) ++ queued (c .mem) (r .answer) (r .out);
+      }
+
+  abbrev pub reported : World (h .State) → Lent → List Report
+  reported w l = reportsFor (made w l .answer) (delivered (l .delivery) (w .queue)) (lent (l .set) (c .set)) (made w l .out)
+
+  -- lent the run's own things and a delivery of the queue's; or refused so
+  abbrev pub Fair : World (h .State) → Lent → Type 0
+  Fair w l = (T (allOwn l) × Delivered (l .delivery) (w .queue)) ⊎ T (aside (made w l .answer))

@@ -1,5 +1,6 @@
--- The plain host. Document 01, "Plain host": "It sees no delivery. It is fed the session's opening, image set, names, buffer sizes, the device's
--- opening bytes as one string, and its memory." Of the step it shares the verdict on one whole packet and the leaves, and knows nothing of its phases.
+-- The plain host. Document 01, "Plain host": "It sees no delivery. .. It keeps a place in the string, a count of memory reads and its reports." Of the
+-- step it shares the verdict on one whole packet and the leaves, and knows nothing of its phases. ("Opening" is what a session is opened with, as in
+-- verdict/specs/Opening; the device's first bytes are its opening bytes; a region is opened by a report `opened`.)
 use Prim.Native.Nat.{ℕ, zero, suc, _+_, _-_, _/_, _%_, min}
 use mathlib.Core.Bool.{Bool, true, false, not, _&&_}
 use mathlib.Core.List.{List, [], _∷_, _++_, map}
@@ -9,7 +10,9 @@ use Rattle.base.specs.Choice.{pick}
 use Rattle.bundle.specs.Bundle.{wellFormed}
 use Rattle.entry.specs.Entry.{entrySize, entryOf, baseOf, lengthOf}
 use Rattle.selection.specs.Selection.{selected}
-use Rattle.packet.specs.Packet.{lengthField, badLength}
+use Rattle.command.specs.Command.{kindNumber}
+use Rattle.command.specs.declared.SaharaCmd.the-variants as K
+use Rattle.packet.specs.Packet.{commandField, lengthField, badLength}
 use Rattle.build.specs.Build.{bytesOf}
 use Rattle.build.specs.declared.Request.the-variants as Q
 use Rattle.verdict.specs.Opening.{chunkOf, onUsb}
@@ -29,6 +32,10 @@ pub data Report : Type 0 where
   closed : ℕ → Report
   finished : ℕ → ℕ → Report
 
+-- a packet is a memory read
+abbrev pub isRead : List ℕ → Bool
+isRead p = eqb (commandField p) (kindNumber K.MemRead64)
+
 -- k bytes of the memory from a on
 unfoldable pub bytesAt : (ℕ → ℕ) → ℕ → ℕ → List ℕ
 bytesAt mem a zero = []
@@ -37,10 +44,18 @@ bytesAt mem a (suc k) = mem a ∷ bytesAt mem (suc a) k
 -- ---- "While bytes are left, it cuts off a packet of the length in its header, follows *Packet* and the refusals, and reports the packet sent, the
 -- image's bytes or finished. It stops where a packet is refused, cut short, finishing or an ExecuteResp. A memory debug ends this cutting."
 
--- how the opening ends: stopped, or a memory debug of k bytes at a with what stands after it
+-- what a memory debug gives: where the table stands and how many bytes it has
+pub record Debug : Type 0 where
+  pub address : ℕ
+  pub size : ℕ
+
+abbrev pub debug : ℕ → ℕ → Debug
+debug a k = record { address = a; size = k }
+
+-- how the opening bytes end: stopped, or a memory debug with what stands after it
 pub data Ending : Type 0 where
   Stopped : Ending
-  Debugged : ℕ → ℕ → List ℕ → Ending
+  Debugged : Debug → List ℕ → Ending
 
 pub record Heard : Type 0 where
   pub said : List Report
@@ -59,10 +74,10 @@ after set s rest (W.Image x k) = say (image (take k (drop x set))) rest
 after set s rest W.Pass = rest
 after set s rest (W.Finish how) = say (finished how 0) (stop Stopped)
 after set s rest (W.Respond c k) = say (sent (bytesOf (Q.ExecuteData c))) (stop Stopped)
-after set s rest (W.Debug a k) = stop (Debugged a k s)
+after set s rest (W.Debug a k) = stop (Debugged (debug a k) s)
 after set s rest (W.Refused why) = stop Stopped
 
--- fuel: each packet has at least 8 bytes, so the string's length is enough
+-- fuel: each packet has at least 8 bytes, so the string's length is enough; more changes nothing (`fuel` of proofs/Cutting)
 unfoldable pub hear : Opening → List ℕ → ℕ → ℕ → ℕ → List ℕ → Heard
 hear u set tsize rsize zero s = stop Stopped
 hear u set tsize rsize (suc fuel) s =
@@ -101,7 +116,7 @@ abbrev pub chunk : Opening → (ℕ → ℕ) → ℕ → ℕ → List Report
 chunk u mem a n =
     sent (bytesOf (Q.MemRead64 a n)) ∷ (map byte (bytesAt mem a n) ++ emptyIf (emptyAfter u n))
 
--- l bytes from a on; fuel: each chunk has at least one byte, so l is enough
+-- l bytes from a on; fuel: each chunk has at least one byte, so l is enough; more changes nothing (`fuel` of proofs/Region)
 unfoldable pub chunks : Opening → (ℕ → ℕ) → ℕ → ℕ → ℕ → List Report
 chunks u mem zero a l = []
 chunks u mem (suc fuel) a l =
@@ -123,17 +138,35 @@ regions f u mem t (i ∷ is) r =
 
 -- ---- the whole: "its MemRead64 is reported, and the table is the memory's bytes there"
 
--- the selected entries of a table of k bytes at a
-abbrev pub selectedIn : ℕ → (ℕ → ℕ) → List ℕ → ℕ → ℕ → List ℕ
-selectedIn f mem names a k = chosen f names (bytesAt mem a k) (k / entrySize f) 0
+abbrev pub tableIn : (ℕ → ℕ) → Debug → List ℕ
+tableIn mem dbg = bytesAt mem (dbg .address) (dbg .size)
+
+-- its selected entries: "Entries are length / 64"
+abbrev pub selectedIn : ℕ → (ℕ → ℕ) → List ℕ → Debug → List ℕ
+selectedIn f mem names dbg = chosen f names (tableIn mem dbg) (dbg .size / entrySize f) 0
 
 unfoldable pub dump : Opening → (ℕ → ℕ) → List ℕ → Ending → List Report
 dump u mem names Stopped = []
-dump u mem names (Debugged a k s) =
-    sent (bytesOf (Q.MemRead64 a k)) ∷ regions 8 u mem (bytesAt mem a k) (selectedIn 8 mem names a k) 1
+dump u mem names (Debugged dbg s) =
+    sent (bytesOf (Q.MemRead64 (dbg .address) (dbg .size))) ∷ regions 8 u mem (tableIn mem dbg) (selectedIn 8 mem names dbg) 1
 
 unfoldable pub reportsOf : Opening → (ℕ → ℕ) → List ℕ → Heard → List Report
 reportsOf u mem names h = h .said ++ dump u mem names (h .ending)
 
-unfoldable pub plain : Opening → (ℕ → ℕ) → List ℕ → List ℕ → ℕ → ℕ → ℕ → List ℕ → List Report
-plain u mem set names tsize rsize osize s = reportsOf u mem names (hosted u set names tsize rsize osize s)
+-- "It is fed the session's opening, image set, names, buffer sizes, the device's opening bytes as one string, and its memory."
+pub record Setting : Type 0 where
+  pub opening : Opening
+  pub set : List ℕ
+  pub names : List ℕ
+  pub table : List ℕ
+  pub reply : List ℕ
+  pub out : List ℕ
+  pub bytes : List ℕ
+  pub mem : ℕ → ℕ
+
+-- what it hears of the opening bytes; of the buffers it looks at the sizes alone
+abbrev pub heardOf : Setting → Heard
+heardOf c = hosted (c .opening) (c .set) (c .names) (length (c .table)) (length (c .reply)) (length (c .out)) (c .bytes)
+
+unfoldable pub plain : Setting → List Report
+plain c = reportsOf (c .opening) (c .mem) (c .names) (heardOf c)

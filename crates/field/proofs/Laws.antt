@@ -183,3 +183,7 @@ module _ (s : List ℕ) (at : ℕ) where
 
   pub field8-short : field8 s at ≡ F8.Short → length s < at + 8
   field8-short = told-short 8 F8.Is F8.Short is≢short8 (λ x y e. cc) s at
+
+-- two lists with one front have its fields
+pub le-same : (w at k : ℕ) (s t : List ℕ) → at + w ≤ k → take k s ≡ take k t → le w (drop at s) ≡ le w (drop at t)
+le-same w at k s t h e = sym (le-within w at k s h) ∙ ap (λ (l : List ℕ). le w (drop at l)) e ∙ le-within w at k t h

@@ -6,6 +6,7 @@ use mathlib.Core.Bool.{Bool, true, false}
 use mathlib.Core.List.{List, [], _∷_}
 use lib.Dec.{eqb}
 use Rattle.base.specs.Choice.{pick}
+use Rattle.base.specs.Told.{Told, toldGo, toldRefused}
 use Rattle.utf8.specs.Utf8.{utf8}
 use Rattle.filename.specs.declared.NameCheck.{NameCheck}
 use Rattle.filename.specs.declared.NameCheck.the-variants as N
@@ -31,6 +32,11 @@ openCheck name = pick (has 0 name) (pick (utf8 (before 0 name)) N.Good (N.Refuse
 -- what the step after open says of it
 unfoldable pub afterOpenCheck : List ℕ → NameCheck
 afterOpenCheck name = pick (utf8 name) N.Good (N.Refused 21)
+
+-- what either tells
+abbrev pub nameTold : NameCheck → Told
+nameTold N.Good = toldGo
+nameTold (N.Refused why) = toldRefused why
 
 -- a sound name
 unfoldable pub sound : List ℕ → Bool

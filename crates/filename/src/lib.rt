@@ -1,7 +1,8 @@
 // Filenames of table entries: the stem, and the tests of a region's name.
 ghost use mathlib.Core.Path.{_≡_};
 ghost use lib.ListN.{length};
-ghost use Rattle.filename.specs.Filename.{before, stemOf, openCheck, afterOpenCheck};
+ghost use Rattle.base.specs.Told.{Tells};
+ghost use Rattle.filename.specs.Filename.{before, stemOf, openCheck, afterOpenCheck, nameTold};
 
 pub enum NameCheck {
     Good,
@@ -34,7 +35,7 @@ pub fn stem_len(name: &[u8]) -> usize
 
 // What opening a region says of its name.
 pub fn check_open(name: &[u8]) -> NameCheck
-    ensures { λ r. ⌜ r ≡ openCheck (now (name .entry)) ⌝ }
+    ensures { λ r. ⌜ Tells nameTold r (openCheck (now (name .entry))) ⌝ }
 {
     let n = name.len();
     let k = find(name, 0);
@@ -49,7 +50,7 @@ pub fn check_open(name: &[u8]) -> NameCheck
 
 // What the step after open says of it.
 pub fn check_after_open(name: &[u8]) -> NameCheck
-    ensures { λ r. ⌜ r ≡ afterOpenCheck (now (name .entry)) ⌝ }
+    ensures { λ r. ⌜ Tells nameTold r (afterOpenCheck (now (name .entry))) ⌝ }
 {
     if utf8::valid(name) {
         return NameCheck::Good;

@@ -10,7 +10,8 @@ use Rattle.session.specs.Limits.{fillingLimit}
 use Rattle.session.specs.declared.Filling.{Filling}
 use Rattle.session.specs.declared.Session.{Session}
 use Rattle.turn.specs.Turn.{refusalOf}
-use Rattle.turn.proofs.Laws.{neither, passed}
+use Rattle.base.proofs.Tests.{neither}
+use Rattle.turn.proofs.Laws.{passed}
 
 -- n is the guard's number, limited what the test of the filling x of the buffer b told
 pub room : (s : Session) (x : Filling) (b o : List ℕ) {n : ℕ} {limited : Bool} → n ≡ refusalOf s limited o → limited ≡ fillingLimit x b → n ≡ 0

@@ -16,6 +16,8 @@ ghost use mathlib.Core.Path.{_≡_};
 ghost use Prim.Native.Nat.{_-_, _≤_, min};
 ghost use lib.ListN.{length};
 ghost use lib.Seq.{paste};
+ghost use Rattle.base.specs.Told.{Tells};
+ghost use Rattle.session.specs.Answers.{outcomeTold};
 ghost use Rattle.session.specs.Outcome.{outcome};
 ghost use Rattle.session.specs.Guard.{responseStep, switchedStep, tableStep};
 
@@ -45,8 +47,8 @@ pub fn response_step(
 ) -> Stepped
     ensures { λ r.
         ⌜
-        outcome r (now (table .entry)) (now (reply .exit)) (now (out .exit))
-        ≡ responseStep s x (now (delivery .entry)) (now (table .entry)) (now (reply .entry)) (now (out .entry))
+        Tells outcomeTold (outcome r (now (table .entry)) (now (reply .exit)) (now (out .exit)))
+        (responseStep s x (now (delivery .entry)) (now (table .entry)) (now (reply .entry)) (now (out .entry)))
         ⌝ }
 {
     let why = guard(s, filling_limit(x, reply), out);
@@ -71,8 +73,8 @@ pub fn response_step(
 pub fn switched_step(s: Session, k: usize, table: &[u8], reply: &[u8], out: &[u8]) -> Stepped
     ensures { λ r.
         ⌜
-        outcome r (now (table .entry)) (now (reply .entry)) (now (out .entry))
-        ≡ switchedStep s k (now (table .entry)) (now (reply .entry)) (now (out .entry))
+        Tells outcomeTold (outcome r (now (table .entry)) (now (reply .entry)) (now (out .entry)))
+        (switchedStep s k (now (table .entry)) (now (reply .entry)) (now (out .entry)))
         ⌝ }
 {
     let why = guard(s, reply.len() < k, out);
@@ -93,8 +95,8 @@ pub fn table_step(
 ) -> Stepped
     ensures { λ r.
         ⌜
-        outcome r (now (table .exit)) (now (reply .entry)) (now (out .entry))
-        ≡ tableStep s x (now (delivery .entry)) (now (table .entry)) (now (reply .entry)) (now (out .entry))
+        Tells outcomeTold (outcome r (now (table .exit)) (now (reply .entry)) (now (out .entry)))
+        (tableStep s x (now (delivery .entry)) (now (table .entry)) (now (reply .entry)) (now (out .entry)))
         ⌝ }
 {
     let why = guard(s, filling_limit(x, table), out);

@@ -37,7 +37,8 @@ module _ (s : Session) (d set names t y o : List ℕ) where
 abbrev pub regionWaits : Region → Bool
 regionWaits x = pick (x .due) false (pick (eqb (x .outstanding) 0) false true)
 
--- a packet; a response or a table that is not full; a region with bytes outstanding
+-- a packet; a response or a table that is not full; a region with bytes outstanding. Of a session within its limits: exactly where a step with an empty
+-- delivery gives go and changes nothing (`waits`, `waits-only` of waiting/proofs/Waiting)
 abbrev pub needsBytes : Phase → Bool
 needsBytes (P.Packet h) = true
 needsBytes (P.Response x) = ltb (x .filled) (x .declared)
@@ -48,7 +49,8 @@ needsBytes (P.Region k x) = regionWaits x
 needsBytes (P.Ended k) = false
 
 -- how many bytes are asked for, as the Rust's reads ask: of a packet its header, then what its length field leaves; what is missing of a response or a
--- table; what is outstanding of a region. 0 where none are needed, and where more is there than was declared
+-- table; what is outstanding of a region. 0 where none are needed, and where more is there than was declared. Of a session within its limits: 0 exactly
+-- where none are needed, and a step lent no more takes all of it (`wanted-needs`, `takes-all` of waiting/proofs/Waiting)
 abbrev pub packetWants : List ℕ → ℕ → ℕ
 packetWants w h = pick (ltb h 8) (8 - h) (lengthField w - h)
 

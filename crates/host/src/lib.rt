@@ -22,6 +22,8 @@ use verdict::Opening;
 use verdict::QdlBackend;
 ghost use mathlib.Core.Path.{_≡_};
 ghost use Prim.Native.Nat.{_-_};
+ghost use Rattle.base.specs.Told.{Tells};
+ghost use Rattle.session.specs.Answers.{steppedTold, outcomeTold};
 ghost use Rattle.session.specs.Outcome.{openedWith, outcome, isEnded};
 ghost use Rattle.session.specs.Step.{stepOf, closedOf};
 ghost use Rattle.host.specs.Host.{opening, phaseStep, regionWaits, needsBytes, packetWants, regionWants, wantedOf};
@@ -53,8 +55,8 @@ pub fn phase_step(
     reply: &mut [u8],
     out: &mut [u8],
 ) -> Stepped
-    ensures { λ r. ⌜ outcome r (now (table .exit)) (now (reply .exit)) (now (out .exit))
-        ≡ phaseStep s (now (delivery .entry)) (now (set .entry)) (now (names .entry)) (now (table .entry)) (now (reply .entry)) (now (out .entry)) p ⌝ }
+    ensures { λ r. ⌜ Tells outcomeTold (outcome r (now (table .exit)) (now (reply .exit)) (now (out .exit)))
+        (phaseStep s (now (delivery .entry)) (now (set .entry)) (now (names .entry)) (now (table .entry)) (now (reply .entry)) (now (out .entry)) p) ⌝ }
 {
     match p {
         Phase::Packet(held) => packet_step(s, held, delivery, set, table, reply, out),
@@ -82,8 +84,8 @@ pub fn step(
     reply: &mut [u8],
     out: &mut [u8],
 ) -> Stepped
-    ensures { λ r. ⌜ outcome r (now (table .exit)) (now (reply .exit)) (now (out .exit))
-        ≡ stepOf s (now (delivery .entry)) (now (set .entry)) (now (names .entry)) (now (table .entry)) (now (reply .entry)) (now (out .entry)) ⌝ }
+    ensures { λ r. ⌜ Tells outcomeTold (outcome r (now (table .exit)) (now (reply .exit)) (now (out .exit)))
+        (stepOf s (now (delivery .entry)) (now (set .entry)) (now (names .entry)) (now (table .entry)) (now (reply .entry)) (now (out .entry))) ⌝ }
 {
     let Checked::Good = check_images(set) else {
         return untouched(s, 1);
@@ -111,7 +113,7 @@ fn is_ended(p: Phase) -> bool
 
 // The channel was closed.
 pub fn closed(s: Session) -> Stepped
-    ensures { λ r. ⌜ r ≡ closedOf s ⌝ }
+    ensures { λ r. ⌜ Tells steppedTold r (closedOf s) ⌝ }
 {
     let p = s.phase;
     if is_ended(p) {
@@ -132,7 +134,8 @@ fn waiting(x: Region) -> bool
     true
 }
 
-// Whether the next step would wait: it answers go to an empty delivery and nothing changes.
+// Whether the next step would wait. Of a session within its limits: exactly where it answers go to an empty delivery and nothing changes
+// (`waits` and `waits-only` of waiting/proofs/Waiting).
 pub fn needs_bytes(s: Session) -> bool
     ensures { λ r. ⌜ r ≡ needsBytes (s .phase) ⌝ }
 {
@@ -175,7 +178,8 @@ fn region_wants(x: Region) -> usize
     x.outstanding as usize
 }
 
-// How many bytes the next step asks for: 0 where it needs none.
+// How many bytes the next step asks for. Of a session within its limits: 0 exactly where it needs none, and a step lent no more takes all of it
+// (`wanted-needs` and `takes-all` of waiting/proofs/Waiting).
 pub fn wanted(s: Session) -> usize
     ensures { λ r. ⌜ r ≡ wantedOf s ⌝ }
 {

@@ -7,6 +7,7 @@ use mathlib.Core.List.{List}
 use lib.Dec.{leb, eqb}
 use lib.ListN.{take, drop}
 use Rattle.base.specs.Choice.{pick}
+use Rattle.base.specs.Told.{Told, toldImage, toldRefused}
 use Rattle.bundle.specs.Bundle.{wellFormed, countOf, slotOf}
 use Rattle.bundle.specs.declared.Slot.{Slot}
 use Rattle.bundle.specs.declared.Slot.the-variants.{At, Absent, Missing}
@@ -30,6 +31,11 @@ rangeUnjudged set id offset len = rangeIn (slotOf set (slotFor (countOf set) id)
 -- the range of an image set, which is well-formed or refused
 unfoldable pub rangeOf : List ℕ → ℕ → ℕ → ℕ → ImageRange
 rangeOf set id offset len = pick (wellFormed true set) (rangeUnjudged set id offset len) (R.Refused 1)
+
+-- what a range tells: image, its start in the set and its length
+abbrev pub rangeTold : ImageRange → Told
+rangeTold (R.At start k) = toldImage start k
+rangeTold (R.Refused why) = toldRefused why
 
 -- the bytes of a slot's image
 abbrev pub imageIn : List ℕ → Slot → List ℕ

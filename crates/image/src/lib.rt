@@ -1,18 +1,17 @@
 // The image range that a device's read asks for. An image ID and a slot number are different quantities.
 use bundle::Checked;
 use bundle::Slot;
+use bundle::SlotNumber;
 use bundle::check_images;
 use bundle::slot_at;
 use field::u32_padded;
 ghost use mathlib.Core.Path.{_≡_};
 ghost use Prim.Native.Nat.{_+_, _<_};
-ghost use Rattle.image.specs.Image.{slotFor, rangeIn, rangeUnjudged, rangeOf};
+ghost use Rattle.base.specs.Told.{Tells};
+ghost use Rattle.image.specs.Image.{slotFor, rangeIn, rangeUnjudged, rangeOf, rangeTold};
 
 // The device's name for an image.
 pub struct ImageId(pub u64);
-
-// A slot's number in an image set.
-pub struct SlotNumber(pub u64);
 
 pub enum ImageRange {
     At(usize, usize),
@@ -26,7 +25,7 @@ fn slot_for(n: u32, id: ImageId) -> SlotNumber
     if n == 1 {
         return SlotNumber(0);
     }
-    SlotNumber(id.0)
+    SlotNumber(id.0 as usize)
 }
 
 // A part of a slot's image.
@@ -47,11 +46,11 @@ fn part_of(start: usize, size: usize, offset: u64, len: u64) -> ImageRange
 
 // Where the bytes that a read asks for stand in the set, which is not judged: for a caller that has checked it.
 pub fn image_range_unjudged(set: &[u8], id: ImageId, offset: u64, len: u64) -> ImageRange
-    ensures { λ r. ⌜ r ≡ rangeUnjudged (now (set .entry)) (id .0) offset len ⌝ }
+    ensures { λ r. ⌜ Tells rangeTold r (rangeUnjudged (now (set .entry)) (id .0) offset len) ⌝ }
 {
     let n = u32_padded(set, 0);
     let slot = slot_for(n, id);
-    match slot_at(set, slot.0 as usize) {
+    match slot_at(set, slot) {
         Slot::At(start, size) => part_of(start, size, offset, len),
         Slot::Absent => ImageRange::Refused(12),
         Slot::Missing => ImageRange::Refused(12),
@@ -60,7 +59,7 @@ pub fn image_range_unjudged(set: &[u8], id: ImageId, offset: u64, len: u64) -> I
 
 // Where the bytes that a read asks for stand in the set.
 pub fn image_range(set: &[u8], id: ImageId, offset: u64, len: u64) -> ImageRange
-    ensures { λ r. ⌜ r ≡ rangeOf (now (set .entry)) (id .0) offset len ⌝ }
+    ensures { λ r. ⌜ Tells rangeTold r (rangeOf (now (set .entry)) (id .0) offset len) ⌝ }
 {
     let Checked::Good = check_images(set) else {
         return ImageRange::Refused(1);

@@ -20,6 +20,8 @@ ghost use lib.ListN.{length, drop};
 ghost use Rattle.field.specs.Field.{le};
 ghost use Rattle.packet.specs.declared.Body.the-variants as Y;
 ghost use Rattle.packet.specs.declared.SaharaPacketBody.the-variants as B;
+ghost use Rattle.base.specs.Told.{Tells};
+ghost use Rattle.packet.specs.Told.{decodedTold, lengthTold};
 ghost use Rattle.packet.specs.Packet.{unkOf, helloWords, addressLength, bodyOf, kindOf, packetWith, decodeOf, lengthChecked};
 
 // The six words of a hello that nobody uses.
@@ -339,7 +341,7 @@ fn packet_with(len: u32, body: Body) -> Decoded
 
 // Decodes a packet from any bytes.
 pub fn sahara_parse_packet(p: &[u8]) -> Decoded
-    ensures { λ r. ⌜ r ≡ decodeOf (now (p .entry)) ⌝ }
+    ensures { λ r. ⌜ Tells decodedTold r (decodeOf (now (p .entry))) ⌝ }
 {
     if p.len() < 8 {
         return Decoded::Refused(9);
@@ -354,7 +356,7 @@ pub fn sahara_parse_packet(p: &[u8]) -> Decoded
 
 // The length rule of `sahara_read_packet`.
 pub fn sahara_read_packet_length(len: u32) -> LengthCheck
-    ensures { λ r. ⌜ r ≡ lengthChecked len ⌝ }
+    ensures { λ r. ⌜ Tells lengthTold r (lengthChecked len) ⌝ }
 {
     if len < 8 {
         return LengthCheck::Refused(5);

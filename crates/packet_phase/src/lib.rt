@@ -23,6 +23,8 @@ ghost use mathlib.Core.List.{List};
 ghost use Prim.Native.Nat.{ℕ, _-_, _≤_};
 ghost use lib.ListN.{length};
 ghost use Rattle.build.specs.Build.{sizeOf, front};
+ghost use Rattle.base.specs.Told.{Tells};
+ghost use Rattle.session.specs.Answers.{outcomeTold};
 ghost use Rattle.session.specs.Outcome.{outcome, gives, reading, holding};
 ghost use Rattle.session.specs.PacketPhase.{keep, acted, wholeOf, sizedOf, packetOf};
 ghost use Rattle.session.specs.Guard.{packetStep};
@@ -206,8 +208,8 @@ pub fn packet_step(
     reply: &[u8],
     out: &mut [u8],
 ) -> Stepped
-    ensures { λ r. ⌜ outcome r (now (table .entry)) (now (reply .entry)) (now (out .exit))
-        ≡ packetStep s held (now (delivery .entry)) (now (set .entry)) (now (table .entry)) (now (reply .entry)) (now (out .entry)) ⌝ }
+    ensures { λ r. ⌜ Tells outcomeTold (outcome r (now (table .entry)) (now (reply .entry)) (now (out .exit)))
+        (packetStep s held (now (delivery .entry)) (now (set .entry)) (now (table .entry)) (now (reply .entry)) (now (out .entry))) ⌝ }
 {
     let w = s.window;
     let why = guard(s, held_limit(w, held), out);

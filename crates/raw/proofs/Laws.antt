@@ -1,13 +1,13 @@
 -- The laws of sessions as numbers: `session-back`, `session-is` and `raw-back`; and `opened-is`. By the cases of modes, commands, backends and phases,
 -- and by the tests. Assumes nothing.
 use mathlib.Core.Path.{_≡_, refl, sym, ap, _∙_}
-use mathlib.Core.Bool.{Bool, true, false}
+use mathlib.Core.Bool.{Bool, true, false, true≢false}
 use Prim.Native.Nat.{ℕ}
 use native.Mathlib.Omega.{arith}
 use borrow.Author.Tests.{eqb-true, eqb-false, ltb-true}
 use lib.Dec.{ltb, eqb}
 use Rattle.base.specs.Choice.{pick}
-use Rattle.base.proofs.Ranges.{by-test}
+use Rattle.base.proofs.Ranges.{by-test, by-then}
 use Rattle.command.specs.Command.{modeNumber, modeOf, commandOf}
 use Rattle.command.specs.declared.SaharaMode.{SaharaMode}
 use Rattle.command.proofs.Laws.{mode-back, command-back}
@@ -112,9 +112,8 @@ session-is s =
 
 -- ---- numbers that are a session's are those of the session that they are read as
 
-both : (a b : Bool) → pick a b false ≡ true → (a ≡ true) × (b ≡ true)
-both true b e = (refl, e)
-both false b e = let z : _≡_ {A = ℕ} 0 1 = cc in absurd (omega arith)
+no : _≡_ {A = Bool} false true → ⊥
+no e = true≢false (sym e)
 
 mode-kept : (n : ℕ) → isMode n ≡ true → modeNumber (modeIn (modeOf n)) ≡ n
 unfolding modeOf
@@ -122,7 +121,7 @@ mode-kept n h =
     by-test (eqb n 0) (λ e. rw (eqb-true n 0 e) refl)
     (λ e0. by-test (eqb n 2) (λ e. rw (eqb-true n 2 e) refl)
     (λ e2. by-test (eqb n 3) (λ e. rw (eqb-true n 3 e) refl)
-    (λ e3. let z : _≡_ {A = Bool} false true = rw (e0, e2, e3) at h in let y : _≡_ {A = ℕ} 0 1 = cc in absurd (omega arith))))
+    (λ e3. absurd (no (rw (e0, e2, e3) at h)))))
 
 exec-kept : (n : ℕ) → isExec n ≡ true → execNumber (execIn (commandOf n)) ≡ n
 unfolding commandOf
@@ -158,15 +157,22 @@ countsIn r =
 
 region-zero : (r : RawSession) (n : ℕ) → r .phase ≡ n → noRegion r ≡ true → counts n (r .count) (r .at) ≡ countsIn r
 region-zero r n p h =
-    let b = both (eqb (r .base) 0) _ h in
-    let l = both (eqb (r .len) 0) _ (b .1) in
-    let d = both (eqb (r .done) 0) _ (l .1) in
-    let o = both (eqb (r .outstanding) 0) _ (d .1) in
-    rw (p, eqb-true (r .base) 0 (b .0), eqb-true (r .len) 0 (l .0), eqb-true (r .done) 0 (d .0), eqb-true (r .outstanding) 0 (o .0), eqb-true (r .due) 0 (o .1)) refl
+    let b = by-then (eqb (r .base) 0) _ false no h in
+    let l = by-then (eqb (r .len) 0) _ false no (b .1) in
+    let d = by-then (eqb (r .done) 0) _ false no (l .1) in
+    let o = by-then (eqb (r .outstanding) 0) _ false no (d .1) in
+    rw (
+      p,
+      eqb-true (r .base) 0 (b .0),
+      eqb-true (r .len) 0 (l .0),
+      eqb-true (r .done) 0 (d .0),
+      eqb-true (r .outstanding) 0 (o .0),
+      eqb-true (r .due) 0 (o .1),
+    ) refl
 
 place-zero : (r : RawSession) (n : ℕ) → r .phase ≡ n → noPlace r ≡ true → counts n (r .count) 0 ≡ countsIn r
 place-zero r n p h =
-    let a = both (eqb (r .at) 0) (noRegion r) h in
+    let a = by-then (eqb (r .at) 0) (noRegion r) false no h in
     ap (counts n (r .count)) (sym (eqb-true (r .at) 0 (a .0))) ∙ region-zero r n p (a .1)
 
 phase-kept : (r : RawSession) → isPhase r ≡ true → countsOf (phaseOf r) ≡ countsIn r
@@ -186,14 +192,14 @@ phase-kept r h =
     (λ e. rw (e0, e1, e2, e3, e4, e) (rw (eqb-true (r .phase) 5 e, bit-kept (r .due) (rw (e0, e1, e2, e3, e4, e) at h)) refl))
     (λ e5. by-test (eqb (r .phase) 6)
     (λ e. rw (e0, e1, e2, e3, e4, e5) (place-zero r 6 (eqb-true (r .phase) 6 e) (rw (e0, e1, e2, e3, e4, e5, e) at h)))
-    (λ e6. let z : _≡_ {A = Bool} false true = rw (e0, e1, e2, e3, e4, e5, e6) at h in let y : _≡_ {A = ℕ} 0 1 = cc in absurd (omega arith))))))))
+    (λ e6. absurd (no (rw (e0, e1, e2, e3, e4, e5, e6) at h)))))))))
 
 pub raw-back : (r : RawSession) → isSession r ≡ true → rawOf (sessionOf r) ≡ r
 unfolding isSession rawOf sessionOf
 raw-back r h =
-    let a = both (isOpening (r .mode) (r .command) (r .backend)) (isPhase r) h in
-    let m = both (isMode (r .mode)) _ (a .0) in
-    let x = both (isExec (r .command)) _ (m .1) in
+    let a = by-then (isOpening (r .mode) (r .command) (r .backend)) (isPhase r) false no h in
+    let m = by-then (isMode (r .mode)) _ false no (a .0) in
+    let x = by-then (isExec (r .command)) _ false no (m .1) in
     rw (mode-kept (r .mode) (m .0), exec-kept (r .command) (x .0), backend-kept (r .backend) (x .1), phase-kept r (a .1)) refl
 
 -- a session's refusal, told: its numbers as they were
@@ -208,8 +214,8 @@ unfolding rawOf openedRaw
 opened-bare m c b =
     by-test (isOpening m c b)
     (λ h.
-    let k = both (isMode m) _ h in
-    let x = both (isExec c) _ (k .1) in
+    let k = by-then (isMode m) _ false no h in
+    let x = by-then (isExec c) _ false no (k .1) in
     rw (h, mode-kept m (k .0), exec-kept c (x .0), backend-kept b (x .1)) refl)
     (λ h. rw h refl)
 

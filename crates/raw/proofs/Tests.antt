@@ -29,7 +29,8 @@ unfolding isSession
 by-phase r e = rw e refl
 
 -- a number that is no phase's
-module _ (r : RawSession) (n0 : r .phase ≡ 0 → ⊥) (n1 : r .phase ≡ 1 → ⊥) (n2 : r .phase ≡ 2 → ⊥) (n3 : r .phase ≡ 3 → ⊥) (n4 : r .phase ≡ 4 → ⊥) (n5 : r .phase ≡ 5 → ⊥) where
+module _ (r : RawSession) (n0 : r .phase ≡ 0 → ⊥) (n1 : r .phase ≡ 1 → ⊥) (n2 : r .phase ≡ 2 → ⊥)
+    (n3 : r .phase ≡ 3 → ⊥) (n4 : r .phase ≡ 4 → ⊥) (n5 : r .phase ≡ 5 → ⊥) where
   pub other-ended : P.Ended (r .count) ≡ phaseOf r
   unfolding phaseOf
   other-ended =

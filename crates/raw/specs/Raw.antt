@@ -23,12 +23,15 @@ use Rattle.session.specs.declared.Region.{Region}
 use Rattle.session.specs.declared.Phase.{Phase}
 use Rattle.session.specs.declared.Phase.the-variants as P
 use Rattle.session.specs.declared.Session.{Session}
+use Rattle.session.specs.declared.Answer.{Answer}
+use Rattle.session.specs.declared.Answer.the-variants as A
 use Rattle.session.specs.declared.Stepped.{Stepped}
 use Rattle.session.specs.Outcome.{openedWith, filling, region}
 use Rattle.session.specs.Answers.{answerNumber, answerValues}
 use Rattle.raw.specs.declared.Counts.{Counts}
 use Rattle.raw.specs.declared.RawSession.{RawSession}
 use Rattle.raw.specs.declared.RawStepped.{RawStepped}
+use Rattle.raw.specs.declared.RawTold.{RawTold}
 
 -- ---- "Opened with mode, command or none, backend"
 
@@ -191,20 +194,18 @@ openedRaw m c b = pick (isOpening m c b) (rawOf (openedWith (openingOf m c b))) 
 
 -- ---- what a step gives
 
+-- what is told beside the session: bytes taken, the answer's number and its values
+abbrev pub toldOf : ℕ → Answer → RawTold
+toldOf k a =
+    record { taken = k; first = getD (answerValues a) 0 0; second = getD (answerValues a) 1 0; answer = answerNumber a }
+
+-- a session's numbers, and what is told
+abbrev pub steppedAt : RawSession → RawTold → RawStepped
+steppedAt s r = record { session = s; taken = r .taken; first = r .first; second = r .second; answer = r .answer }
+
 unfoldable pub rawStepped : Stepped → RawStepped
-rawStepped s =
-    record {
-      session = rawOf (s .session);
-      taken = s .taken;
-      first = getD (answerValues (s .answer)) 0 0;
-      second = getD (answerValues (s .answer)) 1 0;
-      answer = answerNumber (s .answer);
-    }
+rawStepped s = steppedAt (rawOf (s .session)) (toldOf (s .taken) (s .answer))
 
 -- refused, the numbers as they were; of a session's it is what the session's own refusal gives (`refused-told` of proofs/Laws)
 abbrev pub refusedRaw : RawSession → ℕ → RawStepped
-refusedRaw r why = record { session = r; taken = 0; first = why; second = 0; answer = 8 }
-
--- numbers that are no session's come back as they were, refused 18
-abbrev pub noSession : RawSession → RawStepped
-noSession r = refusedRaw r 18
+refusedRaw r why = steppedAt r (toldOf 0 (A.Refused why))

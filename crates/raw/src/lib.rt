@@ -9,6 +9,7 @@ use command::command_number;
 use command::command_of;
 use command::mode_number;
 use command::mode_of;
+use session::Answer;
 use session::Filling;
 use session::Phase;
 use session::Region;
@@ -41,8 +42,10 @@ ghost use Rattle.raw.specs.Raw.{
   sessionOf,
   isSession,
   openedRaw,
+  toldOf,
+  steppedAt,
   rawStepped,
-  noSession,
+  refusedRaw,
 };
 
 // Numbers that the phase does not use are 0.
@@ -388,6 +391,31 @@ pub fn raw_of(s: Session) -> RawSession
     }
 }
 
+// What is told beside the session: bytes taken, the answer's number and its values.
+pub fn told(taken: usize, answer: Answer) -> RawTold
+    ensures { λ r. ⌜ r ≡ toldOf taken answer ⌝ }
+{
+    RawTold {
+        taken,
+        first: first_value(answer),
+        second: second_value(answer),
+        answer: answer_number(answer),
+    }
+}
+
+// A session's numbers, and what is told.
+pub fn stepped_at(session: RawSession, t: RawTold) -> RawStepped
+    ensures { λ r. ⌜ r ≡ steppedAt session t ⌝ }
+{
+    RawStepped {
+        session,
+        taken: t.taken,
+        first: t.first,
+        second: t.second,
+        answer: t.answer,
+    }
+}
+
 // What a step gives, as numbers.
 pub fn raw_stepped(s: Stepped) -> RawStepped
     ensures { λ r. ⌜ r ≡ rawStepped s ⌝ }
@@ -395,24 +423,14 @@ pub fn raw_stepped(s: Stepped) -> RawStepped
     let session = s.session;
     let answer = s.answer;
     let raw = raw_of(session);
-    RawStepped {
-        session: raw,
-        taken: s.taken,
-        first: first_value(answer),
-        second: second_value(answer),
-        answer: answer_number(answer),
-    }
+    let t = told(s.taken, answer);
+    stepped_at(raw, t)
 }
 
-// What is given for numbers that are no session's: they come back as they were, refused 18.
-pub fn no_session(r: RawSession) -> RawStepped
-    ensures { λ x. ⌜ x ≡ noSession r ⌝ }
+// Refused, the numbers as they were.
+pub fn refused(r: RawSession, why: u8) -> RawStepped
+    ensures { λ x. ⌜ x ≡ refusedRaw r why ⌝ }
 {
-    RawStepped {
-        session: r,
-        taken: 0,
-        first: 18,
-        second: 0,
-        answer: 8,
-    }
+    let t = told(0, Answer::Refused(why));
+    stepped_at(r, t)
 }

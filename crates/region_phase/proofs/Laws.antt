@@ -1,15 +1,27 @@
--- What is known of a region that is within its limits. Assumes nothing.
-use mathlib.Core.Path.{_≡_}
+-- What is known of a region that is within its limits; and a session's step in a region is the step over its counts, put into the session
+-- (`advance-is`), by the tests. Assumes nothing.
+use mathlib.Core.Path.{_≡_, refl, sym, ap}
 use mathlib.Core.Bool.{Bool, true, false, not, _&&_, _||_, true≢false}
 use mathlib.Core.List.{List}
 use Prim.Native.Nat.{ℕ, _+_, _^_, _<_, _≤_}
 use borrow.Author.Tests.{ltb-false, leb-false, ne-eqb}
 use lib.Dec.{ltb, leb, eqb}
 use lib.ListN.{length}
+use Rattle.base.specs.Choice.{pick}
+use Rattle.base.proofs.Ranges.{by-test, by-else}
+use Rattle.verdict.specs.declared.Opening.{Opening}
 use Rattle.session.specs.declared.Region.{Region}
+use Rattle.session.specs.declared.Session.{Session}
+use Rattle.session.specs.declared.Counted.{Counted}
+use Rattle.session.specs.Outcome.{Outcome}
 use Rattle.session.specs.BetweenPhase.{entriesIn}
+use Rattle.session.specs.RegionPhase.{nextChunk, askOf, handOf, regionOf}
 use Rattle.session.specs.Limits.{regionLimit}
-use Rattle.turn.proofs.Laws.{neither}
+use Rattle.session.specs.Guard.{regionStep}
+use Rattle.region_phase.specs.Advance.{Advanced, advanced, advanceWithin, advanceOf, onAdvance}
+use Rattle.region_phase.specs.declared.Advance.{Advance}
+use Rattle.region_phase.specs.declared.Advance.the-variants as D
+use Rattle.base.proofs.Tests.{neither}
 
 pub record Within (f k : ℕ) (x : Region) (t : List ℕ) : Type 0 where
   pub table : k ≤ length t
@@ -39,3 +51,64 @@ region-within f k x t e =
       counts = ltb-false (x .len) sum (abc .1);
       ends = λ n. ltb-false (256 ^ f) (x .base + x .len) (and-left (eqb sum 0) D (abcd .1) (ne-eqb sum 0 n));
     }
+
+-- ---- a session's step is the step over its counts
+
+module _ (s : Session) (k : ℕ) (x : Region) (d t y : List ℕ) where
+  abbrev put : Advanced → Outcome
+  put a = onAdvance s k x t y (a .out) (a .advance)
+
+  within-is : (o : List ℕ) → regionOf 8 s k x d t y o ≡ put (advanceWithin (s .opening) (s .reads) x (length d) o)
+  unfolding regionOf askOf nextChunk handOf advanceWithin
+  within-is o =
+      by-test (x .due) (λ e. rw e refl)
+      (λ e. by-test (eqb (x .outstanding) 0)
+      (λ z. by-test (eqb (x .done) 0) (λ b. rw (e, z, b) refl)
+      (λ b. by-test (leb (x .len) (x .done)) (λ w. rw (e, z, b, w) refl) (λ w. rw (e, z, b, w) refl)))
+      (λ z. by-test (eqb (length d) 0) (λ b. rw (e, z, b) refl) (λ b. rw (e, z, b) refl)))
+
+  pub advance-is : (o : List ℕ) → regionStep s k x d t y o ≡ put (advanceOf (s .opening) (s .reads) k x (length d) t o)
+  unfolding regionStep advanceOf
+  advance-is o =
+      by-test (ltb (length o) 48) (λ e. rw e refl)
+      (λ e. by-test (ltb (2 ^ 63 + 1) (s .reads) || regionLimit 8 k x t) (λ l. rw (e, l) refl) (λ l. rw (e, l) (within-is o)))
+
+-- ---- what is known by what it comes to
+
+left : {a b : Advance} {o p : List ℕ} → advanced a o ≡ advanced b p → p ≡ o
+left q = sym (ap (λ (z : Advanced). z .out) q)
+
+to : {a b : Advance} {o p : List ℕ} → advanced a o ≡ advanced b p → a ≡ b
+to q = ap (λ (z : Advanced). z .advance) q
+
+-- the out buffer changes only where the counts do
+module _ (u : Opening) (m : ℕ) (x : Region) (n : ℕ) (o : List ℕ) {v : Advance} {o' : List ℕ} (still : (c : Counted) → v ≡ D.To c → ⊥) where
+  within-still : advanceWithin u m x n o ≡ advanced v o' → o' ≡ o
+  unfolding advanceWithin
+  within-still q =
+      by-test (x .due) (λ e. left (rw e at q))
+      (λ e. by-test (eqb (x .outstanding) 0)
+      (λ z. by-test (eqb (x .done) 0) (λ b. left (rw (e, z, b) at q))
+      (λ b. by-test (leb (x .len) (x .done)) (λ w. left (rw (e, z, b, w) at q)) (λ w. absurd (still _ (sym (to (rw (e, z, b, w) at q)))))))
+      (λ z. by-test (eqb n 0) (λ b. left (rw (e, z, b) at q)) (λ b. left (rw (e, z, b) at q))))
+
+  pub advance-still : (k : ℕ) (t : List ℕ) → advanceOf u m k x n t o ≡ advanced v o' → o' ≡ o
+  unfolding advanceOf
+  advance-still k t q =
+      by-test (ltb (length o) 48) (λ e. left (rw e at q))
+      (λ e. by-test (ltb (2 ^ 63 + 1) m || regionLimit 8 k x t) (λ l. left (rw (e, l) at q)) (λ l. within-still (rw (e, l) at q)))
+
+-- what is not refused has room, and every count is within its limit
+pub record Passed (m k : ℕ) (x : Region) (t o : List ℕ) : Type 0 where
+  pub room : 48 ≤ length o
+  pub reads : m ≤ 2 ^ 63 + 1
+  pub within : Within 8 k x t
+
+pub advance-passed : (u : Opening) (m k : ℕ) (x : Region) (n : ℕ) (t o : List ℕ) {a : Advanced}
+    → ((why : ℕ) → advanced (D.Refused why) o ≡ a → ⊥) → advanceOf u m k x n t o ≡ a → Passed m k x t o
+unfolding advanceOf
+advance-passed u m k x n t o never q =
+    let r = by-else (ltb (length o) 48) _ _ (never 3) q in
+    let l = by-else (ltb (2 ^ 63 + 1) m || regionLimit 8 k x t) _ _ (never 18) (r .1) in
+    let b = neither (ltb (2 ^ 63 + 1) m) (regionLimit 8 k x t) (l .0) in
+    record { room = ltb-false (length o) 48 (r .0); reads = ltb-false (2 ^ 63 + 1) m (b .0); within = region-within 8 k x t (b .1) }

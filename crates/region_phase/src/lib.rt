@@ -6,16 +6,18 @@ use entry::entry_at;
 use filename::NameCheck;
 use filename::check_after_open;
 use limits::past_memory;
+use limits::reads_limit;
 use limits::region_limit;
 use session::Answer;
+use session::Counted;
 use session::Phase;
 use session::Region;
 use session::Session;
 use session::Stepped;
-use turn::guard;
 use turn::least;
 use turn::moved;
 use turn::untouched;
+use verdict::Opening;
 ghost use mathlib.Core.Path.{_≡_};
 ghost use mathlib.Core.Bool.{true, false};
 ghost use mathlib.Core.List.{List};
@@ -23,14 +25,28 @@ ghost use Prim.Native.Nat.{ℕ, _+_, _^_, _<_, _≤_};
 ghost use lib.ListN.{length};
 ghost use Rattle.entry.specs.Entry.{entryOf, filenameOf, there};
 ghost use Rattle.filename.specs.Filename.{afterOpenCheck};
-ghost use Rattle.session.specs.Outcome.{outcome, region};
-ghost use Rattle.session.specs.RegionPhase.{nextChunk, begunOf, askOf, handOf, regionOf};
-ghost use Rattle.session.specs.Limits.{readsLimit, regionLimit};
+ghost use Rattle.base.specs.Told.{Tells};
+ghost use Rattle.session.specs.Answers.{outcomeTold};
+ghost use Rattle.session.specs.Outcome.{gives, outcome};
+ghost use Rattle.session.specs.RegionPhase.{recounted, askedOf, askedOut, handedOf, countedIn, closes, begunOf};
 ghost use Rattle.session.specs.Guard.{regionStep};
+ghost use Rattle.region_phase.specs.Advance.{advanced, advanceWithin, advanceOf};
+
+// What a region's step comes to, by its counts: refused; bytes are outstanding and none came; other counts; the region is to be begun, its name judged;
+// it is to be closed.
+pub enum Advance {
+    Refused(u8),
+    Waits,
+    To(Counted),
+    Begins,
+    Closes,
+}
+
+// ---- over the counts
 
 // The region with other counts.
-fn counted(x: Region, done: u64, outstanding: u64, due: bool) -> Region
-    ensures { λ r. ⌜ r ≡ region (x .entry) (x .base) (x .len) done outstanding due ⌝ }
+fn recount(x: Region, done: u64, outstanding: u64, due: bool) -> Region
+    ensures { λ r. ⌜ r ≡ recounted x done outstanding due ⌝ }
 {
     Region {
         entry: x.entry,
@@ -42,32 +58,132 @@ fn counted(x: Region, done: u64, outstanding: u64, due: bool) -> Region
     }
 }
 
-// No chunk is outstanding, and the region is begun: the close, so that the next step goes on from the next entry, or the next memory read.
-fn next_chunk(s: Session, k: usize, x: Region, out: &mut [u8]) -> Stepped
-    requires { ⌜ (48 ≤ length (now out)) × (x .entry + 1 < 2 ^ 64) × (x .base + x .len ≤ 256 ^ 8) × (s .reads ≤ 2 ^ 63 + 1) ⌝ }
-    ensures { λ r. ⌜ ((t y : List ℕ) → outcome r t y (now (out .exit)) ≡ nextChunk s k x t y (now (out .entry))) ⌝ }
+// No bytes are outstanding and some are left: the next memory read.
+fn ask(opening: Opening, reads: u64, x: Region, out: &mut [u8]) -> Counted
+    requires { ⌜ (48 ≤ length (now out)) × (x .done < x .len) × (x .base + x .len ≤ 256 ^ 8) × (reads ≤ 2 ^ 63 + 1) ⌝ }
+    ensures { λ r. ⌜ (r ≡ askedOf opening reads x) × (now (out .exit) ≡ askedOut opening x (now (out .entry))) ⌝ }
 {
-    let entry = x.entry;
-    if x.len <= x.done {
-        return moved(s, Phase::Between(k, entry + 1), 0, Answer::Close(entry));
-    }
-    let opening = s.opening;
-    let window = s.window;
     let most = chunk_size(opening);
     let rest = (x.len - x.done) as usize;
     let n = least(most, rest) as u64;
     sahara_send_mem_read64(out, x.base + x.done, n);
-    let next = counted(x, x.done, n, false);
-    Stepped {
-        session: Session {
-            opening,
-            reads: s.reads + 1,
-            window,
-            phase: Phase::Region(k, next),
-        },
+    Counted {
+        region: recount(x, x.done, n, false),
+        reads: reads + 1,
         taken: 0,
         answer: Answer::Send(24),
     }
+}
+
+// Bytes are outstanding: of those that came, so many, what is outstanding is handed out.
+fn hand_out(opening: Opening, reads: u64, x: Region, came: usize) -> Counted
+    requires { ⌜ x .done + x .outstanding ≤ x .len ⌝ }
+    ensures { λ r. ⌜ r ≡ handedOf opening reads x came ⌝ }
+{
+    let n = least(x.outstanding as usize, came);
+    let left = x.outstanding - n as u64;
+    let done = x.done + n as u64;
+    let due = due_after(opening, left, done);
+    Counted {
+        region: recount(x, done, left, due),
+        reads,
+        taken: n,
+        answer: Answer::Bytes(n),
+    }
+}
+
+// With every count within its limit: the empty read that is due, a chunk asked for, or one handed out.
+fn advance_within(opening: Opening, reads: u64, x: Region, came: usize, out: &mut [u8]) -> Advance
+    requires { ⌜ (48 ≤ length (now out)) × (reads ≤ 2 ^ 63 + 1) × (x .done + x .outstanding ≤ x .len)
+        × ((x .done ≡ 0 → ⊥) → x .base + x .len ≤ 256 ^ 8) ⌝ }
+    ensures { λ r. ⌜ advanced r (now (out .exit)) ≡ advanceWithin opening reads x came (now (out .entry)) ⌝ }
+{
+    let due = x.due;
+    if due {
+        return Advance::To(Counted {
+            region: recount(x, x.done, x.outstanding, false),
+            reads,
+            taken: 0,
+            answer: Answer::EmptyRead,
+        });
+    }
+    if x.outstanding == 0 {
+        if x.done == 0 {
+            return Advance::Begins;
+        }
+        if x.len <= x.done {
+            return Advance::Closes;
+        }
+        return Advance::To(ask(opening, reads, x, out));
+    }
+    if came == 0 {
+        return Advance::Waits;
+    }
+    Advance::To(hand_out(opening, reads, x, came))
+}
+
+// A region's step over its counts: k is the table's length, x the region, and so many bytes came.
+pub fn advance_region(
+    opening: Opening,
+    reads: u64,
+    k: usize,
+    x: Region,
+    came: usize,
+    table: &[u8],
+    out: &mut [u8],
+) -> Advance
+    ensures { λ r. ⌜ advanced r (now (out .exit)) ≡ advanceOf opening reads k x came (now (table .entry)) (now (out .entry)) ⌝ }
+{
+    if out.len() < 48 {
+        return Advance::Refused(3);
+    }
+    if reads_limit(reads) {
+        return Advance::Refused(18);
+    }
+    if region_limit(k, x, table) {
+        return Advance::Refused(18);
+    }
+    advance_within(opening, reads, x, came, out)
+}
+
+// ---- put into a session
+
+fn counted_in(s: Session, k: usize, c: Counted) -> Stepped
+    ensures { λ r. ⌜ r ≡ countedIn s k c ⌝ }
+{
+    let opening = s.opening;
+    let window = s.window;
+    let x = c.region;
+    let answer = c.answer;
+    Stepped {
+        session: Session {
+            opening,
+            reads: c.reads,
+            window,
+            phase: Phase::Region(k, x),
+        },
+        taken: c.taken,
+        answer,
+    }
+}
+
+fn waits(s: Session) -> Stepped
+    ensures { λ r. ⌜ r ≡ gives s 0 Answer.Go ⌝ }
+{
+    Stepped {
+        session: s,
+        taken: 0,
+        answer: Answer::Go,
+    }
+}
+
+// The next step goes on from the next entry.
+fn close(s: Session, k: usize, x: Region) -> Stepped
+    requires { ⌜ x .entry + 1 < 2 ^ 64 ⌝ }
+    ensures { λ r. ⌜ r ≡ closes s k x ⌝ }
+{
+    let entry = x.entry;
+    moved(s, Phase::Between(k, entry + 1), 0, Answer::Close(entry))
 }
 
 // The step after open, by the entry's name, then its end: 21, 22.
@@ -87,64 +203,12 @@ fn begin_region(s: Session, k: usize, x: Region, table: &[u8], out: &mut [u8]) -
     if past_memory(x.base, x.len) {
         return moved(s, Phase::Ended(0), 0, Answer::Refused(22));
     }
-    next_chunk(s, k, x, out)
-}
-
-// No chunk is outstanding.
-fn ask(s: Session, k: usize, x: Region, table: &[u8], out: &mut [u8]) -> Stepped
-    requires { ⌜ (48 ≤ length (now out)) × (readsLimit s ≡ false) × (regionLimit 8 k x (now table) ≡ false) × (x .outstanding ≡ 0) ⌝ }
-    ensures { λ r. ⌜ ((y : List ℕ) → outcome r (now (table .entry)) y (now (out .exit))
-        ≡ askOf 8 s k x (now (table .entry)) y (now (out .entry))) ⌝ }
-{
-    if x.done == 0 {
-        return begin_region(s, k, x, table, out);
+    if x.len <= x.done {
+        return close(s, k, x);
     }
-    next_chunk(s, k, x, out)
-}
-
-// Bytes are outstanding: what came is handed out.
-fn hand_out(s: Session, k: usize, x: Region, delivery: &[u8]) -> Stepped
-    requires { ⌜ x .done + x .outstanding ≤ x .len ⌝ }
-    ensures { λ r. ⌜ ((t y o : List ℕ) → outcome r t y o ≡ handOf s k x (now (delivery .entry)) t y o) ⌝ }
-{
-    if delivery.len() == 0 {
-        return Stepped {
-            session: s,
-            taken: 0,
-            answer: Answer::Go,
-        };
-    }
-    let n = least(x.outstanding as usize, delivery.len());
-    let left = x.outstanding - n as u64;
-    let done = x.done + n as u64;
     let opening = s.opening;
-    let due = due_after(opening, left, done);
-    let next = counted(x, done, left, due);
-    moved(s, Phase::Region(k, next), n, Answer::Bytes(n))
-}
-
-// A region's step, with every count within its limit: the empty read that is due, a chunk asked for, or one handed out.
-fn in_region(
-    s: Session,
-    k: usize,
-    x: Region,
-    delivery: &[u8],
-    table: &[u8],
-    out: &mut [u8],
-) -> Stepped
-    requires { ⌜ (48 ≤ length (now out)) × (readsLimit s ≡ false) × (regionLimit 8 k x (now table) ≡ false) ⌝ }
-    ensures { λ r. ⌜ ((y : List ℕ) → outcome r (now (table .entry)) y (now (out .exit))
-        ≡ regionOf 8 s k x (now (delivery .entry)) (now (table .entry)) y (now (out .entry))) ⌝ }
-{
-    let due = x.due;
-    if due {
-        let next = counted(x, x.done, x.outstanding, false);
-        return moved(s, Phase::Region(k, next), 0, Answer::EmptyRead);
-    }
-    if x.outstanding == 0 {
-        return ask(s, k, x, table, out);
-    }
-    hand_out(s, k, x, delivery)
+    let c = ask(opening, s.reads, x, out);
+    counted_in(s, k, c)
 }
 
 // A step in a region: k is the table's length, x the region.
@@ -157,12 +221,16 @@ pub fn region_step(
     reply: &[u8],
     out: &mut [u8],
 ) -> Stepped
-    ensures { λ r. ⌜ outcome r (now (table .entry)) (now (reply .entry)) (now (out .exit))
-        ≡ regionStep s k x (now (delivery .entry)) (now (table .entry)) (now (reply .entry)) (now (out .entry)) ⌝ }
+    ensures { λ r. ⌜ Tells outcomeTold (outcome r (now (table .entry)) (now (reply .entry)) (now (out .exit)))
+        (regionStep s k x (now (delivery .entry)) (now (table .entry)) (now (reply .entry)) (now (out .entry))) ⌝ }
 {
-    let why = guard(s, region_limit(k, x, table), out);
-    if why != 0 {
-        return untouched(s, why);
+    let opening = s.opening;
+    let a = advance_region(opening, s.reads, k, x, delivery.len(), table, out);
+    match a {
+        Advance::Refused(why) => untouched(s, why),
+        Advance::Waits => waits(s),
+        Advance::To(c) => counted_in(s, k, c),
+        Advance::Begins => begin_region(s, k, x, table, out),
+        Advance::Closes => close(s, k, x),
     }
-    in_region(s, k, x, delivery, table, out)
 }

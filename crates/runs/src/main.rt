@@ -4,6 +4,8 @@
 use command::CommandOf;
 use command::ModeOf;
 use command::SaharaMode;
+use feed::Feed;
+use feed::Turned;
 use session::Answer;
 use session::Phase;
 use session::Session;
@@ -26,13 +28,6 @@ struct Case {
     names: usize,
     feed: usize,
     end: usize,
-}
-
-// A delivery, from..to of the input, and whether the device's bytes are over.
-struct Feed {
-    from: usize,
-    to: usize,
-    over: bool,
 }
 
 fn least(a: usize, b: usize) -> usize
@@ -220,10 +215,7 @@ fn refill(f: Feed, size: usize, end: usize) -> Feed
     requires { ⌜ (f .from ≤ f .to) × (f .to ≤ end) ⌝ }
     ensures { λ r. ⌜ (r .from ≤ r .to) × (r .to ≤ end) ⌝ }
 {
-    if f.from < f.to {
-        return f;
-    }
-    if f.over {
+    if !feed::is_due(f) {
         return f;
     }
     let n = least(size, end - f.to);
@@ -232,25 +224,6 @@ fn refill(f: Feed, size: usize, end: usize) -> Feed
         to: f.to + n,
         over: n == 0,
     }
-}
-
-// What is left after a step.
-fn moved(f: Feed, taken: usize) -> Feed
-    requires { ⌜ f .from ≤ f .to ⌝ }
-    ensures { λ r. ⌜ (r .from ≤ r .to) × (r .to ≡ f .to) ⌝ }
-{
-    Feed {
-        from: f.from + least(taken, f.to - f.from),
-        to: f.to,
-        over: f.over,
-    }
-}
-
-// A step, and whether the session goes on.
-struct Turned {
-    session: Session,
-    feed: Feed,
-    more: bool,
 }
 
 fn closed(s: Session, f: Feed) -> Turned
@@ -284,13 +257,13 @@ fn turn(
     let next = r.session;
     let a = r.answer;
     let p = next.phase;
-    let feed = moved(f, r.taken);
+    let left = feed::left_after(f, r.taken);
     let more = told(r.taken, a, set, out);
     io::write_all(1, b"\n");
     replied(a, p, reply);
     Turned {
         session: next,
-        feed: feed,
+        feed: left,
         more: more,
     }
 }
@@ -309,10 +282,8 @@ fn turn_or_close(
     requires { ⌜ f .from ≤ f .to ⌝ }
     ensures { λ r. ⌜ (r .feed .from ≤ r .feed .to) × (r .feed .to ≡ f .to) ⌝ }
 {
-    if f.over {
-        if host::needs_bytes(s) {
-            return closed(s, f);
-        }
+    if feed::closes(f, s) {
+        return closed(s, f);
     }
     turn(s, f, delivery, set, names, table, reply, out)
 }
@@ -329,11 +300,7 @@ fn run(
     out: &mut [u8],
 ) {
     let mut s = first;
-    let mut f = Feed {
-        from: 0,
-        to: 0,
-        over: false,
-    };
+    let mut f = feed::begin();
     let mut turns: u64 = 0;
     while turns < 1000000000 {
         turns += 1;

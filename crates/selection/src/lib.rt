@@ -1,5 +1,6 @@
 // Selection of table entries by preference or by name.
 use bundle::Slot;
+use bundle::SlotNumber;
 use bundle::slot_at;
 use entry::entry_at;
 use field::u32_padded;
@@ -21,14 +22,15 @@ pub fn lower(b: u8) -> u8
     b
 }
 
-// Whether a stem is one of n names, both sides lowered. The search is left at the first that is.
+// Whether a stem is one of n names, both sides lowered. A name's bytes are left at the first that differs, and the search at the first name that is
+// the stem.
 fn named(names: &[u8], n: usize, stem: &[u8]) -> bool
     ensures { λ r. ⌜ r ≡ member (map low (now (stem .entry))) (map (map low) (namesFrom (now (names .entry)) n 0)) ⌝ }
 {
     let mut found = false;
     let mut i: usize = 0;
     'names: while i < n {
-        let s = slot_at(names, i);
+        let s = slot_at(names, SlotNumber(i));
         let Slot::At(start, size) = s else {
             i += 1;
             continue 'names;
@@ -38,17 +40,17 @@ fn named(names: &[u8], n: usize, stem: &[u8]) -> bool
             continue 'names;
         }
         let mut j: usize = 0;
-        loop {
+        'bytes: loop {
             if stem.len() <= j {
                 found = true;
                 break 'names;
             }
             if lower(names[start + j]) != lower(stem[j]) {
-                i += 1;
-                continue 'names;
+                break 'bytes;
             }
             j += 1;
         }
+        i += 1;
     }
     found
 }

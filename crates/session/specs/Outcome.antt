@@ -38,6 +38,16 @@ filling k n = record { declared = k; filled = n }
 abbrev pub region : ℕ → ℕ → ℕ → ℕ → ℕ → Bool → Region
 region i b l d k u = record { entry = i; base = b; len = l; done = d; outstanding = k; due = u }
 
+-- how many bytes of a packet are held
+abbrev pub heldIn : Phase → ℕ
+heldIn (P.Packet h) = h
+heldIn (P.Response x) = 0
+heldIn (P.Switched k) = 0
+heldIn (P.Table x) = 0
+heldIn (P.Between k i) = 0
+heldIn (P.Region k x) = 0
+heldIn (P.Ended k) = 0
+
 abbrev pub isEnded : Phase → Bool
 isEnded (P.Packet h) = false
 isEnded (P.Response x) = false

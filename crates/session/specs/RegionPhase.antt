@@ -17,7 +17,10 @@ use Rattle.verdict.specs.declared.Opening.{Opening}
 use Rattle.session.specs.declared.Region.{Region}
 use Rattle.session.specs.declared.Phase.the-variants as P
 use Rattle.session.specs.declared.Session.{Session}
+use Rattle.session.specs.declared.Answer.{Answer}
 use Rattle.session.specs.declared.Answer.the-variants as A
+use Rattle.session.specs.declared.Stepped.{Stepped}
+use Rattle.session.specs.declared.Counted.{Counted}
 use Rattle.session.specs.Outcome.{inPhase, reading, ended, region, Outcome, outcome, gives}
 
 -- "On USB a chunk that is a multiple of 512 makes one empty read due when its last byte is handed out, that is, when nothing is outstanding and done is a
@@ -25,18 +28,56 @@ use Rattle.session.specs.Outcome.{inPhase, reading, ended, region, Outco
 abbrev pub dueAfter : Opening → ℕ → ℕ → Bool
 dueAfter u outstanding done = onUsb u && eqb outstanding 0 && eqb (done % 512) 0
 
+-- ---- what the steps of a region count: the opening, the memory reads so far and the region; no session is in it
+
+abbrev pub counted : Region → ℕ → ℕ → Answer → Counted
+counted x m n a = record { region = x; reads = m; taken = n; answer = a }
+
+-- the region with other counts
+abbrev pub recounted : Region → ℕ → ℕ → Bool → Region
+recounted x done outstanding due = region (x .entry) (x .base) (x .len) done outstanding due
+
+-- the empty read that is due
 abbrev pub emptied : Region → Region
-emptied x = region (x .entry) (x .base) (x .len) (x .done) (x .outstanding) false
+emptied x = recounted x (x .done) (x .outstanding) false
+
+abbrev pub emptiedOf : ℕ → Region → Counted
+emptiedOf m x = counted (emptied x) m 0 A.EmptyRead
+
+-- the next memory read, and the out buffer with it
+abbrev pub asksFor : Opening → Region → ℕ
+asksFor u x = min (chunkOf u) (x .len - x .done)
+
+abbrev pub askedOf : Opening → ℕ → Region → Counted
+askedOf u m x =
+    let n = asksFor u x in
+    counted (recounted x (x .done) n false) (suc m) 0 (A.Send (sizeOf (Q.MemRead64 (x .base + x .done) n)))
+
+abbrev pub askedOut : Opening → Region → List ℕ → List ℕ
+askedOut u x o = front (Q.MemRead64 (x .base + x .done) (asksFor u x)) o
+
+-- k bytes came: what is outstanding of them is handed out
+abbrev pub handedOf : Opening → ℕ → Region → ℕ → Counted
+handedOf u m x k =
+    let n = min (x .outstanding) k in
+    let left = x .outstanding - n in
+    let done = x .done + n in
+    counted (recounted x done left (dueAfter u left done)) m n (A.Bytes n)
+
+-- ---- the same of a session: k is the table's length
+
+abbrev pub countedIn : Session → ℕ → Counted → Stepped
+countedIn s k c = gives (reading s (c .reads) (P.Region k (c .region))) (c .taken) (c .answer)
+
+abbrev pub closes : Session → ℕ → Region → Stepped
+closes s k x = gives (inPhase s (P.Between k (suc (x .entry)))) 0 (A.Close (x .entry))
 
 -- no chunk is outstanding, and the region is begun
 unfoldable pub nextChunk : Session → ℕ → Region → List ℕ → List ℕ → List ℕ → Outcome
 nextChunk s k x t y o =
     pick (leb (x .len) (x .done))
-    (outcome (gives (inPhase s (P.Between k (suc (x .entry)))) 0 (A.Close (x .entry))) t y o)
-    (let n = min (chunkOf (s .opening)) (x .len - x .done) in
-    outcome
-    (gives (reading s (suc (s .reads)) (P.Region k (region (x .entry) (x .base) (x .len) (x .done) n false))) 0 (A.Send (sizeOf (Q.MemRead64 (x .base + x .done) n))))
-    t y (front (Q.MemRead64 (x .base + x .done) n) o))
+    (outcome (closes s k x) t y o)
+    (outcome (countedIn s k (askedOf (s .opening) (s .reads) x)) t y (askedOut (s .opening) x o))
 
 -- "in the step after open (nothing done or outstanding, no empty read due)": 21 by the table that is lent in that step, 22 by the base and length that
 -- the session keeps. Nothing is done only there: a memory read asks for at least a byte, and where bytes are outstanding they are handed out first
@@ -56,15 +97,10 @@ unfoldable pub handOf : Session → ℕ → Region → List ℕ → List ℕ →
 handOf s k x d t y o =
     pick (eqb (length d) 0)
     (outcome (gives s 0 A.Go) t y o)
-    (let n = min (x .outstanding) (length d) in
-    let left = x .outstanding - n in
-    let done = x .done + n in
-    outcome
-    (gives (inPhase s (P.Region k (region (x .entry) (x .base) (x .len) done left (dueAfter (s .opening) left done)))) n (A.Bytes n))
-    t y o)
+    (outcome (countedIn s k (handedOf (s .opening) (s .reads) x (length d))) t y o)
 
 unfoldable pub regionOf : ℕ → Session → ℕ → Region → List ℕ → List ℕ → List ℕ → List ℕ → Outcome
 regionOf f s k x d t y o =
     pick (x .due)
-    (outcome (gives (inPhase s (P.Region k (emptied x))) 0 A.EmptyRead) t y o)
+    (outcome (countedIn s k (emptiedOf (s .reads) x)) t y o)
     (pick (eqb (x .outstanding) 0) (askOf f s k x t y o) (handOf s k x d t y o))

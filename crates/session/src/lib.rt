@@ -60,3 +60,11 @@ pub struct Stepped {
     pub taken: usize,
     pub answer: Answer,
 }
+
+// What a step of a region counts: the region and the memory reads afterwards, the bytes taken, and the answer.
+pub struct Counted {
+    pub region: Region,
+    pub reads: u64,
+    pub taken: usize,
+    pub answer: Answer,
+}

@@ -1,6 +1,6 @@
 -- From one step to a list of steps, once, over any machine, by induction on the list: the reports of a fair list are a beginning of what was due at
 -- its start, and the whole of it once enough steps counted. Assumes nothing.
-use mathlib.Core.Path.{_≡_, refl, sym, ap, subst, _∙_}
+use mathlib.Core.Path.{_≡_, refl, sym, ap, _∙_}
 use mathlib.Core.Bool.{Bool}
 use mathlib.Core.List.{List, [], _∷_, _++_, append-assoc, append-nil}
 use Prim.Native.Nat.{ℕ, _+_, _-_, _≤_}
@@ -32,22 +32,29 @@ module _ {S I R : Type 0} (next : S → I → S) (out : S → I → List R) (Fai
     pub whole : (is : List I) (s : S) → Good s → FairRun next Fair s is → mu s ≤ counted next counts s is → rest s ≡ outs next out s is
     whole is s g f h = beginning is s g f ∙ rw (none-left is s g f h, append-nil) refl
 
--- A state that carries more, for a proof, than the machine's own: see forgets it, step by step. What is shown of the longer state's list is so of the
--- machine's
-module _ {S S₀ I : Type 0} (next : S → I → S) (next₀ : S₀ → I → S₀) (see : S → S₀) (same : (s : S) (i : I) → see (next s i) ≡ next₀ (see s) i) where
-  -- its reports
-  pub outs-seen : {R : Type 0} (out : S₀ → I → List R) (is : List I) (s : S) → outs next (λ z i. out (see z) i) s is ≡ outs next₀ out (see s) is
-  outs-seen out [] s = refl
-  outs-seen {R} out (i ∷ is) s =
-      ap (λ (l : List R). out (see s) i ++ l) (outs-seen out is (next s i) ∙ ap (λ (z : S₀). outs next₀ out z is) (same s i))
+-- Two machines whose states stay related, step by step, under the same list: a state that carries more for a proof than the machine's own, or the same
+-- machine over other states
+module _ {S S′ I : Type 0} (next : S → I → S) (next′ : S′ → I → S′) (R : S → S′ → Type 0)
+    (kept : (s : S) (s′ : S′) (i : I) → R s s′ → R (next s i) (next′ s′ i)) where
+  -- what both report of related states is the same, and so of the list
+  pub outs-related : {X : Type 0} (out : S → I → List X) (out′ : S′ → I → List X) → ((s : S) (s′ : S′) (i : I) → R s s′ → out s i ≡ out′ s′ i)
+      → (is : List I) (s : S) (s′ : S′) → R s s′ → outs next out s is ≡ outs next′ out′ s′ is
+  outs-related out out′ same [] s s′ r = refl
+  outs-related {X} out out′ same (i ∷ is) s s′ r =
+      ap (λ (l : List X). l ++ outs next out (next s i) is) (same s s′ i r)
+      ∙ ap (λ (l : List X). out′ s′ i ++ l) (outs-related out out′ same is (next s i) (next′ s′ i) (kept s s′ i r))
 
-  -- how many of its steps count
-  pub counted-seen : (counts : S₀ → I → Bool) (is : List I) (s : S) → counted next (λ z i. counts (see z) i) s is ≡ counted next₀ counts (see s) is
-  counted-seen counts [] s = refl
-  counted-seen counts (i ∷ is) s =
-      ap (λ (k : ℕ). one (counts (see s) i) + k) (counted-seen counts is (next s i) ∙ ap (λ (z : S₀). counted next₀ counts z is) (same s i))
+  -- how many steps count
+  pub counted-related : (counts : S → I → Bool) (counts′ : S′ → I → Bool) → ((s : S) (s′ : S′) (i : I) → R s s′ → counts s i ≡ counts′ s′ i)
+      → (is : List I) (s : S) (s′ : S′) → R s s′ → counted next counts s is ≡ counted next′ counts′ s′ is
+  counted-related counts counts′ same [] s s′ r = refl
+  counted-related counts counts′ same (i ∷ is) s s′ r =
+      ap (λ (b : Bool). one b + counted next counts (next s i) is) (same s s′ i r)
+      ∙ ap (λ (k : ℕ). one (counts′ s′ i) + k) (counted-related counts counts′ same is (next s i) (next′ s′ i) (kept s s′ i r))
 
-  -- its fairness
-  pub fair-seen : (Fair : S₀ → I → Type 0) (is : List I) (s : S) → FairRun next₀ Fair (see s) is → FairRun next (λ z i. Fair (see z) i) s is
-  fair-seen Fair [] s f = f
-  fair-seen Fair (i ∷ is) s f = (f .0, fair-seen Fair is (next s i) (subst (λ (z : S₀). FairRun next₀ Fair z is) (sym (same s i)) (f .1)))
+  -- what each step of the second machine's list meets, each of the first one's meets too
+  pub fair-related : (Fair : S → I → Type 0) (Fair′ : S′ → I → Type 0) → ((s : S) (s′ : S′) (i : I) → R s s′ → Fair′ s′ i → Fair s i)
+      → (is : List I) (s : S) (s′ : S′) → R s s′ → FairRun next′ Fair′ s′ is → FairRun next Fair s is
+  fair-related Fair Fair′ same [] s s′ r f = tt
+  fair-related Fair Fair′ same (i ∷ is) s s′ r f =
+      (same s s′ i r (f .0), fair-related Fair Fair′ same is (next s i) (next′ s′ i) (kept s s′ i r) (f .1))

@@ -10,6 +10,7 @@ use borrow.Author.Tests.{le-leb, ltb-false, eq-eqb, ne-eqb}
 use lib.Dec.{ltb, eqb}
 use lib.ListN.{length}
 use Rattle.base.specs.Choice.{pick}
+use Rattle.base.proofs.Tests.{neither}
 use Rattle.entry.specs.Entry.{entrySize, entryOf, there, decoded, entryAt}
 use Rattle.entry.specs.declared.EntryAt.{EntryAt}
 use Rattle.entry.proofs.Laws.{entry-there}
@@ -22,11 +23,6 @@ use Rattle.session.specs.BetweenPhase.{entriesIn}
 use Rattle.session.specs.Limits.{readsLimit, phaseLimit}
 use Rattle.session.specs.Guard.{limitAt, guarded}
 use Rattle.turn.specs.Turn.{refusalOf}
-
--- neither of two tests holds
-pub neither : (a b : Bool) → (a || b) ≡ false → (a ≡ false) × (b ≡ false)
-neither true b h = let z : _≡_ {A = ℕ} 0 1 = cc in absurd (omega arith)
-neither false b h = (refl, h)
 
 -- no number is given: neither test holds
 none : (a b : Bool) → _≡_ {A = ℕ} (pick a 3 (pick b 18 0)) 0 → (a ≡ false) × (b ≡ false)

@@ -1,18 +1,14 @@
--- A law of the verdict: of a well-formed set, one slot is n = 1. Assumes nothing.
-use mathlib.Core.Path.{_≡_}
-use mathlib.Core.Bool.{true}
+-- The verdict looks at no more than a packet's first 48 bytes, as decoding does. Assumes nothing.
+use mathlib.Core.Path.{_≡_, ap}
 use mathlib.Core.List.{List}
-use Prim.Native.Nat.{ℕ, _≤_}
-use native.Mathlib.Omega.{arith}
-use borrow.Author.Tests.{le-ltb}
-use lib.Dec.{eqb}
-use lib.ListN.{length}
-use Rattle.bundle.specs.Bundle.{wellFormed, countOf}
-use Rattle.bundle.proofs.Laws.{formed}
-use Rattle.verdict.specs.Verdict.{oneSlot}
+use Prim.Native.Nat.{ℕ}
+use lib.ListN.{take}
+use Rattle.packet.proofs.Laws.{window}
+use Rattle.verdict.specs.Verdict.{onDecoded, verdictOf}
+use Rattle.verdict.specs.declared.Opening.{Opening}
 
--- the test of DoneResp is that of the slot count
-pub one-slot : (set : List ℕ) → wellFormed true set ≡ true → oneSlot set ≡ eqb (countOf set) 1
-one-slot set h =
-    let l : 4 ≤ length set = omega (arith, formed true set h .header) in
-    simp (le-ltb _ _ l)
+-- the first 48 bytes of a packet say what the whole packet says
+pub verdict-window : (u : Opening) (set : List ℕ) (tsize rsize : ℕ) (p : List ℕ)
+    → verdictOf u set tsize rsize (take 48 p) ≡ verdictOf u set tsize rsize p
+unfolding verdictOf
+verdict-window u set tsize rsize p = ap (onDecoded u set tsize rsize) (window p)

@@ -3,14 +3,14 @@
 -- above the reply buffer; 17 table above 65,536 or its buffer. Where several apply, the first written is given. Besides the leaves and what an
 -- opening decides (Opening), the step and the plain host share this alone.
 use Prim.Native.Nat.{ℕ, min}
-use mathlib.Core.Bool.{Bool, true, false}
-use mathlib.Core.List.{List}
+use mathlib.Core.List.{List, [], _∷_}
 use lib.Dec.{ltb, eqb}
-use lib.ListN.{length}
 use Rattle.base.specs.Choice.{pick}
+use Rattle.base.specs.Told.{Told, told, toldGo, toldImage, toldRefused}
 use Rattle.bundle.specs.Bundle.{countOf}
+use Rattle.command.specs.Command.{commandNumber}
 use Rattle.command.specs.declared.SaharaCmdModeCmd.{SaharaCmdModeCmd}
-use Rattle.image.specs.Image.{rangeOf}
+use Rattle.image.specs.Image.{rangeUnjudged}
 use Rattle.image.specs.declared.ImageRange.{ImageRange}
 use Rattle.image.specs.declared.ImageRange.the-variants as R
 use Rattle.packet.specs.Packet.{decodeOf}
@@ -18,6 +18,7 @@ use Rattle.packet.specs.declared.SaharaPacketBody.{SaharaPacketBody}
 use Rattle.packet.specs.declared.SaharaPacketBody.the-variants as B
 use Rattle.packet.specs.declared.Decoded.{Decoded}
 use Rattle.packet.specs.declared.Decoded.the-variants as D
+use Rattle.build.specs.Build.{requestNumber, requestValues}
 use Rattle.build.specs.declared.Request.the-variants as Q
 use Rattle.verdict.specs.declared.ExecCommand.{ExecCommand}
 use Rattle.verdict.specs.declared.ExecCommand.the-variants as X
@@ -29,7 +30,8 @@ use Rattle.verdict.specs.declared.Verdict.the-variants as W
 abbrev pub exactly : ℕ → ℕ → Verdict → Verdict
 exactly len n v = pick (eqb len n) v (W.Refused 11)
 
--- "either read gives image"; 12 and 13
+-- "either read gives image"; 12 and 13. The set is not judged here: 1 is of the refusals that leave the session untouched, and a step gives it before
+-- its phase
 abbrev pub imageFor : ImageRange → Verdict
 imageFor (R.At start k) = W.Image start k
 imageFor (R.Refused why) = W.Refused why
@@ -38,13 +40,9 @@ imageFor (R.Refused why) = W.Refused why
 abbrev pub endFor : ℕ → Verdict
 endFor status = pick (eqb status 0) (W.Reply Q.Done) (W.Refused 14)
 
--- the set has one slot; too few bytes for a slot count have none
-abbrev pub oneSlot : List ℕ → Bool
-oneSlot set = pick (ltb (length set) 4) false (eqb (countOf set) 1)
-
--- "DoneResp finishes (1) if status is 1 or n = 1, else go"
+-- "DoneResp finishes (1) if status is 1 or n = 1, else go"; n is the set's slot count
 abbrev pub doneFor : List ℕ → ℕ → Verdict
-doneFor set status = pick (eqb status 1) (W.Finish 1) (pick (oneSlot set) (W.Finish 1) W.Pass)
+doneFor set status = pick (eqb status 1) (W.Finish 1) (pick (eqb (countOf set) 1) (W.Finish 1) W.Pass)
 
 -- "CommandReady sends Execute"; 15 no command
 abbrev pub executeFor : ExecCommand → Verdict
@@ -67,7 +65,7 @@ tableFor tsize a k = pick (ltb (room tsize) k) (W.Refused 17) (W.Debug a k)
 abbrev pub onBody : Opening → List ℕ → ℕ → ℕ → ℕ → SaharaPacketBody → Verdict
 onBody o set tsize rsize len (B.HelloReq b) = exactly len 48 (W.Reply (Q.HelloResp (o .mode)))
 onBody o set tsize rsize len (B.HelloResp b) = W.Refused 10
-onBody o set tsize rsize len (B.ReadReq b) = exactly len 20 (imageFor (rangeOf set (b .image) (b .offset) (b .len)))
+onBody o set tsize rsize len (B.ReadReq b) = exactly len 20 (imageFor (rangeUnjudged set (b .image) (b .offset) (b .len)))
 onBody o set tsize rsize len (B.Eoi b) = exactly len 16 (endFor (b .status))
 onBody o set tsize rsize len B.DoneReq = W.Refused 10
 onBody o set tsize rsize len (B.DoneResp b) = doneFor set (b .status)
@@ -77,7 +75,7 @@ onBody o set tsize rsize len (B.ExecResp b) = responseFor rsize (b .command) (b 
 onBody o set tsize rsize len (B.ExecData b) = W.Refused 10
 onBody o set tsize rsize len (B.Debug64Req b) = exactly len 24 (tableFor tsize (b .addr) (b .len))
 onBody o set tsize rsize len (B.ReadMem64Req b) = W.Refused 10
-onBody o set tsize rsize len (B.ReadData64Req b) = exactly len 32 (imageFor (rangeOf set (b .image) (b .offset) (b .len)))
+onBody o set tsize rsize len (B.ReadData64Req b) = exactly len 32 (imageFor (rangeUnjudged set (b .image) (b .offset) (b .len)))
 
 abbrev pub onDecoded : Opening → List ℕ → ℕ → ℕ → Decoded → Verdict
 onDecoded o set tsize rsize (D.Is p) = onBody o set tsize rsize (p .len) (p .body)
@@ -86,3 +84,14 @@ onDecoded o set tsize rsize (D.Refused why) = W.Refused why
 -- the verdict on the packet whose bytes are p
 unfoldable pub verdictOf : Opening → List ℕ → ℕ → ℕ → List ℕ → Verdict
 verdictOf o set tsize rsize p = onDecoded o set tsize rsize (decodeOf p)
+
+-- what a verdict tells, by 01's list of answers: send with the packet's command and values, and beside these what the packet brings with it (the
+-- length of the response to come, "memory reads becoming 1"); image; go; finished with its number; refused
+abbrev pub verdictTold : Verdict → Told
+verdictTold (W.Reply q) = told 1 (requestNumber q ∷ requestValues q)
+verdictTold (W.Image start k) = toldImage start k
+verdictTold W.Pass = toldGo
+verdictTold (W.Finish how) = told 7 (how ∷ [])
+verdictTold (W.Respond c k) = told 1 (requestNumber (Q.ExecuteData c) ∷ commandNumber c ∷ k ∷ [])
+verdictTold (W.Debug a k) = told 1 (requestNumber (Q.MemRead64 a k) ∷ a ∷ k ∷ 1 ∷ [])
+verdictTold (W.Refused why) = toldRefused why

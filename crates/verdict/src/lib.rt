@@ -2,16 +2,16 @@
 use build::Request;
 use command::SaharaCmdModeCmd;
 use command::SaharaMode;
-use field::Field4;
-use field::u32_at;
+use field::u32_padded;
 use image::ImageId;
 use image::ImageRange;
-use image::image_range;
+use image::image_range_unjudged;
 use packet::Decoded;
 use packet::SaharaPacketBody;
 use packet::sahara_parse_packet;
 ghost use mathlib.Core.Path.{_≡_};
-ghost use Rattle.image.specs.Image.{rangeOf};
+ghost use Rattle.base.specs.Told.{Tells};
+ghost use Rattle.image.specs.Image.{rangeUnjudged};
 ghost use Rattle.verdict.specs.Verdict.{
   exactly,
   imageFor,
@@ -22,6 +22,7 @@ ghost use Rattle.verdict.specs.Verdict.{
   tableFor,
   onBody,
   verdictOf,
+  verdictTold,
 };
 
 pub enum QdlBackend {
@@ -68,14 +69,14 @@ fn on_hello(mode: SaharaMode, len: u32) -> Verdict
     Verdict::Reply(Request::HelloResp(mode))
 }
 
-// A read of either width, whose packet is to be `exact` bytes long.
+// A read of either width, whose packet is to be `exact` bytes long. The set is not judged: a step has checked it before.
 fn on_read(set: &[u8], len: u32, exact: u32, image: u64, offset: u64, count: u64) -> Verdict
-    ensures { λ r. ⌜ r ≡ exactly len exact (imageFor (rangeOf (now (set .entry)) image offset count)) ⌝ }
+    ensures { λ r. ⌜ r ≡ exactly len exact (imageFor (rangeUnjudged (now (set .entry)) image offset count)) ⌝ }
 {
     if len != exact {
         return Verdict::Refused(11);
     }
-    match image_range(set, ImageId(image), offset, count) {
+    match image_range_unjudged(set, ImageId(image), offset, count) {
         ImageRange::At(start, k) => Verdict::Image(start, k),
         ImageRange::Refused(why) => Verdict::Refused(why),
     }
@@ -99,10 +100,7 @@ fn on_done_resp(set: &[u8], status: u32) -> Verdict
     if status == 1 {
         return Verdict::Finish(1);
     }
-    let Field4::Is(n) = u32_at(set, 0) else {
-        return Verdict::Pass;
-    };
-    if n == 1 {
+    if u32_padded(set, 0) == 1 {
         return Verdict::Finish(1);
     }
     Verdict::Pass
@@ -195,7 +193,7 @@ fn on_body(
 
 // The verdict on a packet's bytes.
 pub fn judge(opening: Opening, set: &[u8], tsize: usize, rsize: usize, p: &[u8]) -> Verdict
-    ensures { λ r. ⌜ r ≡ verdictOf opening (now (set .entry)) tsize rsize (now (p .entry)) ⌝ }
+    ensures { λ r. ⌜ Tells verdictTold r (verdictOf opening (now (set .entry)) tsize rsize (now (p .entry))) ⌝ }
 {
     match sahara_parse_packet(p) {
         Decoded::Is(q) => {

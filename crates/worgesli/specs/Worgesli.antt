@@ -1,10 +1,13 @@
 -- The step, the channel's end and the bytes asked for over sessions as plain numbers: numbers that are a session's are read as it, and what it does is
 -- told as numbers; any other numbers are refused with 18, as document 01 has it for counts that are no session's ("a session count above its limit"),
--- and nothing is touched.
+-- behind 1, 2 and 3 ("Where several apply, the first written here is given"), and nothing is touched.
 use Prim.Native.Nat.{ℕ}
+use mathlib.Core.Bool.{true, false, not}
 use mathlib.Core.List.{List}
-use lib.ListN.{getD}
+use lib.Dec.{ltb}
+use lib.ListN.{length, getD}
 use Rattle.base.specs.Choice.{pick}
+use Rattle.bundle.specs.Bundle.{wellFormed}
 use Rattle.build.specs.declared.Request.the-variants as Q
 use Rattle.build.specs.Build as B
 use Rattle.session.specs.Outcome.{Outcome}
@@ -12,8 +15,7 @@ use Rattle.session.specs.Step.{stepOf, closedOf}
 use Rattle.host.specs.Host.{wantedOf}
 use Rattle.raw.specs.declared.RawSession.{RawSession}
 use Rattle.raw.specs.declared.RawStepped.{RawStepped}
-use Rattle.raw.specs.declared.RawTold.{RawTold}
-use Rattle.raw.specs.Raw.{sessionOf, isSession, rawStepped, noSession}
+use Rattle.raw.specs.Raw.{sessionOf, isSession, rawStepped, refusedRaw}
 use Rattle.raw_records.specs.Records.{builtNumber}
 
 -- a step's whole outcome, as numbers
@@ -29,10 +31,14 @@ rawOutcome r t y o = record { stepped = r; table = t; reply = y; out = o }
 abbrev pub rawOutcomeOf : Outcome → RawOutcome
 rawOutcomeOf x = rawOutcome (rawStepped (x .stepped)) (x .table) (x .reply) (x .out)
 
+-- what numbers that are no session's are refused with: image set, names and out buffer
+abbrev pub noSession : List ℕ → List ℕ → List ℕ → ℕ
+noSession set names o = pick (not (wellFormed true set)) 1 (pick (not (wellFormed false names)) 2 (pick (ltb (length o) 48) 3 18))
+
 -- session, delivery, image set, names, table, reply and out buffers
 unfoldable pub stepRaw : RawSession → List ℕ → List ℕ → List ℕ → List ℕ → List ℕ → List ℕ → RawOutcome
 stepRaw r d set names t y o =
-    pick (isSession r) (rawOutcomeOf (stepOf (sessionOf r) d set names t y o)) (rawOutcome (noSession r) t y o)
+    pick (isSession r) (rawOutcomeOf (stepOf (sessionOf r) d set names t y o)) (rawOutcome (refusedRaw r (noSession set names o)) t y o)
 
 -- a session in place: mode, command, backend and phase; the eight large numbers; the window
 abbrev pub rawAt : List ℕ → List ℕ → List ℕ → RawSession
@@ -53,12 +59,9 @@ rawAt h n w =
       window = w;
     }
 
--- what a step in place gives: the session where it stands, and what is told
-abbrev pub steppedAt : RawSession → RawTold → RawStepped
-steppedAt s r = record { session = s; taken = r .taken; first = r .first; second = r .second; answer = r .answer }
-
+-- no buffer is lent here, and what is no session cannot be ended: 18
 unfoldable pub closedRaw : RawSession → RawStepped
-closedRaw r = pick (isSession r) (rawStepped (closedOf (sessionOf r))) (noSession r)
+closedRaw r = pick (isSession r) (rawStepped (closedOf (sessionOf r))) (refusedRaw r 18)
 
 unfoldable pub wantedRaw : RawSession → ℕ
 wantedRaw r = pick (isSession r) (wantedOf (sessionOf r)) 0

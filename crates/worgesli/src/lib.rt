@@ -73,13 +73,7 @@ pub extern "C" fn worgesli_step(
         reply,
         out,
     );
-    RawStepped {
-        session: raw_at(&head, &numbers, &window),
-        taken: told.taken,
-        first: told.first,
-        second: told.second,
-        answer: told.answer,
-    }
+    raw::stepped_at(raw_at(&head, &numbers, &window), told)
 }
 
 // The channel was closed.
@@ -88,7 +82,7 @@ pub extern "C" fn worgesli_closed(s: RawSession) -> RawStepped
     ensures { λ r. ⌜ r ≡ closedRaw s ⌝ }
 {
     if !raw::is_session(s) {
-        return raw::no_session(s);
+        return raw::refused(s, 18);
     }
     let t = host::closed(raw::session_of(s));
     raw::raw_stepped(t)

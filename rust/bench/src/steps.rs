@@ -98,5 +98,8 @@ pub fn print(entries: usize, many: usize) {
     let wanted = || {
         black_box(raw::worgesli_wanted(black_box(waiting)));
     };
-    println!("    {:<44} {:8} {:8.1}", "wanted, in a region", "", least(wanted));
+    let place = || {
+        black_box(raw::wanted_in_place(black_box(&waiting)));
+    };
+    println!("    {:<44} {:8.1} {:8.1}", "wanted, in a region", least(place), least(wanted));
 }

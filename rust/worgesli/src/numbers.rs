@@ -125,8 +125,8 @@ impl Refusal {
             17 => "the device announced a memory table longer than 65,536 bytes or the table buffer",
             18 => "a lent buffer is shorter than what the session fills, or the session's numbers are none that a run gives",
             19 => "a region's filename has no zero byte",
-            20 => "a region's filename is not UTF-8",
-            21 => "a region's filename is followed by bytes that are not UTF-8",
+            20 => "a region's filename is not UTF-8 before its first zero byte",
+            21 => "the 20 bytes of a region's filename are not UTF-8",
             22 => "a region ends above 2^64",
             23 => "the channel was closed before the end",
             _ => "no such refusal",
@@ -141,3 +141,21 @@ impl fmt::Display for Refusal {
 }
 
 impl std::error::Error for Refusal {}
+
+#[cfg(test)]
+mod tests {
+    use super::Refusal;
+
+    /// The words are those of the C header.
+    #[test]
+    fn words_of_the_header() {
+        let header = concat!(env!("CARGO_MANIFEST_DIR"), "/../../include/worgesli.h");
+        let header = std::fs::read_to_string(header).unwrap();
+        let block = header.split("/* refusals").nth(1).unwrap().split("*/").next().unwrap();
+        let said: Vec<String> = block.lines().skip(1).map(|l| l.trim_start_matches(" *").trim().to_string()).collect();
+        let ours: Vec<String> = (1..=23).map(|n| format!("{n}  {}", Refusal(n).words())).collect();
+        assert_eq!(said[..23], ours);
+        assert!(said[23..].iter().all(String::is_empty));
+        assert_eq!((Refusal(0).words(), Refusal(24).words()), ("no such refusal", "no such refusal"));
+    }
+}

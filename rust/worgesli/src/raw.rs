@@ -174,6 +174,7 @@ unsafe extern "C" {
     pub safe fn worgesli_closed(s: Session) -> Stepped;
     pub safe fn worgesli_is_session(s: Session) -> bool;
     pub safe fn worgesli_wanted(s: Session) -> usize;
+    pub fn worgesli_wanted_in_place(head: *const u32, numbers: *const u64, window: *const u8) -> usize;
     pub fn worgesli_check_images(set: *const u8, set_len: usize) -> u32;
     pub fn worgesli_check_names(names: *const u8, names_len: usize) -> u32;
     pub fn worgesli_image_range(set: *const u8, set_len: usize, id: u64, offset: u64, len: u64) -> Range;
@@ -191,6 +192,13 @@ unsafe extern "C" {
     pub fn worgesli_reset(out: *mut u8, out_len: usize) -> u32;
 }
 
+/// Calls a step with its first arguments, then each slice as a pointer and a length: those that are read; those that are written.
+macro_rules! call {
+    ($step:ident($($first:expr),+), $($read:ident),+; $($written:ident),+) => {
+        $step($($first,)+ $($read.as_ptr(), $read.len(),)+ $($written.as_mut_ptr(), $written.len(),)+)
+    };
+}
+
 /// One step of a session.
 #[inline]
 pub fn step(
@@ -203,23 +211,7 @@ pub fn step(
     out: &mut [u8],
 ) -> Stepped {
     // Safe: each pair is a live slice, and no two of the mutable ones overlap another.
-    unsafe {
-        worgesli_step(
-            s,
-            delivery.as_ptr(),
-            delivery.len(),
-            set.as_ptr(),
-            set.len(),
-            names.as_ptr(),
-            names.len(),
-            table.as_mut_ptr(),
-            table.len(),
-            reply.as_mut_ptr(),
-            reply.len(),
-            out.as_mut_ptr(),
-            out.len(),
-        )
-    }
+    unsafe { call!(worgesli_step(s), delivery, set, names; table, reply, out) }
 }
 
 /// One step of a session where it stands: as [`step`], and cheaper.
@@ -236,22 +228,21 @@ pub fn step_in_place(
     let s: *mut Session = s;
     // Safe: as above. The session's parts lie where the assertions say: four u32, eight u64 (a usize is one) and the window.
     unsafe {
-        worgesli_step_in_place(
+        let (numbers, window) = (s.byte_add(offset_of!(Session, reads)), s.byte_add(offset_of!(Session, window)));
+        call!(worgesli_step_in_place(s.cast(), numbers.cast(), window.cast()), delivery, set, names; table, reply, out)
+    }
+}
+
+/// How many bytes the next step of a session where it stands asks for: as [`worgesli_wanted`], and cheaper.
+#[inline]
+pub fn wanted_in_place(s: &Session) -> usize {
+    let s: *const Session = s;
+    // Safe: the session's parts lie where the assertions say, and are only read.
+    unsafe {
+        worgesli_wanted_in_place(
             s.cast(),
             s.byte_add(offset_of!(Session, reads)).cast(),
             s.byte_add(offset_of!(Session, window)).cast(),
-            delivery.as_ptr(),
-            delivery.len(),
-            set.as_ptr(),
-            set.len(),
-            names.as_ptr(),
-            names.len(),
-            table.as_mut_ptr(),
-            table.len(),
-            reply.as_mut_ptr(),
-            reply.len(),
-            out.as_mut_ptr(),
-            out.len(),
         )
     }
 }

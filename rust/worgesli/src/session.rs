@@ -56,11 +56,7 @@ impl Session {
     /// byte that belongs to what comes after Sahara.
     #[inline]
     pub fn wanted(&self) -> usize {
-        // in a region, where it is asked most, the number is at hand
-        if self.0.phase == Phase::Region as u32 {
-            return if self.0.due == 0 { self.0.outstanding as usize } else { 0 };
-        }
-        raw::worgesli_wanted(self.0)
+        raw::wanted_in_place(&self.0)
     }
 
     #[inline]

@@ -4,12 +4,15 @@ use lib.Dec.{ltb}
 use lib.ListN.{length}
 use denote.Ref.{now}
 use borrow.Author.Tests.{ltb-false}
+use Rattle.base.proofs.Telling.{tells}
+use Rattle.session.specs.Answers.{outcomeTold}
 use Rattle.session.specs.declared.Phase.the-variants as P
 use Rattle.session.specs.declared.Stepped.{Stepped}
 use Rattle.session.specs.Outcome.{outcome}
 use Rattle.session.specs.BetweenPhase.{entriesIn}
 use Rattle.session.specs.Guard.{betweenStep}
-use Rattle.turn.proofs.Laws.{neither, passed, guard-refused, guard-passed}
+use Rattle.base.proofs.Tests.{neither}
+use Rattle.turn.proofs.Laws.{passed, guard-refused, guard-passed}
 use borrow.Author.Needs.{needs}
 use Rattle.between_phase.proofs.between_step.Statement.{statement}
 use Rattle.between_phase.proofs.between_step.Tie as tie
@@ -29,8 +32,9 @@ returns c =
     let g = c .before .before in
     let b = g .before in
     let a = b .before .before .before .before .before .args in
-    guard-refused (a .s) (P.Between (a .k) (a .i)) (now (a .table)) (now (a .reply)) (now (a .out)) _ (g .guard .ensures) (b .between-limit .ensures)
-    (c .before .if1 .taken) (c .untouched .ensures)
+    tells outcomeTold
+    (guard-refused (a .s) (P.Between (a .k) (a .i)) (now (a .table)) (now (a .reply)) (now (a .out)) _ (g .guard .ensures) (b .between-limit .ensures)
+    (c .before .if1 .taken) (c .untouched .ensures))
 
 next-region-requires : tie.Need-next-region-requires
 next-region-requires c κs =
@@ -47,8 +51,9 @@ returns-2 c =
     let g = c .before .before in
     let b = g .before in
     let a = b .before .before .before .before .before .args in
-    guard-passed (a .s) (P.Between (a .k) (a .i)) (now (a .table)) (now (a .reply)) (now (a .out)) _ (g .guard .ensures) (b .between-limit .ensures)
-    (c .before .if1 .left) (ap (λ (r : Stepped). outcome r (now (a .table)) (now (a .reply)) (now (a .out))) (c .next-region .ensures))
+    tells outcomeTold
+    (guard-passed (a .s) (P.Between (a .k) (a .i)) (now (a .table)) (now (a .reply)) (now (a .out)) _ (g .guard .ensures) (b .between-limit .ensures)
+    (c .before .if1 .left) (ap (λ (r : Stepped). outcome r (now (a .table)) (now (a .reply)) (now (a .out))) (c .next-region .ensures)))
 
 pub between-step-spec : {M : Type 1} → statement M
 between-step-spec =

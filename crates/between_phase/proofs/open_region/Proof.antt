@@ -19,7 +19,7 @@ read c =
 -- so is the name that was tested
 tested : (c : tie.After-check-open) → (let a = c .before .before .before .before .before .before .args in
     c .check-open .result ≡ openCheck (filenameOf 8 (entryOf 8 (now (a .table)) (a .i))))
-tested c = c .check-open .ensures ∙ ap (λ (e : RamdumpTable64). openCheck (e .filename)) (read (c .before .before .before .before))
+tested c = c .check-open .ensures .is ∙ ap (λ (e : RamdumpTable64). openCheck (e .filename)) (read (c .before .before .before .before))
 
 entry-at-requires : tie.Need-entry-at-requires
 entry-at-requires c κs = search needs

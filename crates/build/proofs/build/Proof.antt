@@ -1,5 +1,7 @@
 -- `build::build` meets its contract: each request is what its own builder makes. Assumes nothing.
 use borrow.Author.Needs.{needs}
+use Rattle.base.proofs.Telling.{tells}
+use Rattle.build.specs.Build.{buildTold}
 use Rattle.build.proofs.build.Statement.{statement}
 use Rattle.build.proofs.build.Tie as tie
 
@@ -49,43 +51,43 @@ same-length : tie.Need-same-length
 same-length c = search needs
 
 returns : tie.Need-returns
-returns c = cc
+returns c = tells buildTold (cc)
 
 same-length-2 : tie.Need-same-length-2
 same-length-2 c = search needs
 
 returns-2 : tie.Need-returns-2
-returns-2 c = cc
+returns-2 c = tells buildTold (cc)
 
 same-length-3 : tie.Need-same-length-3
 same-length-3 c = search needs
 
 returns-3 : tie.Need-returns-3
-returns-3 c = cc
+returns-3 c = tells buildTold (cc)
 
 same-length-4 : tie.Need-same-length-4
 same-length-4 c = search needs
 
 returns-4 : tie.Need-returns-4
-returns-4 c = cc
+returns-4 c = tells buildTold (cc)
 
 same-length-5 : tie.Need-same-length-5
 same-length-5 c = search needs
 
 returns-5 : tie.Need-returns-5
-returns-5 c = cc
+returns-5 c = tells buildTold (cc)
 
 same-length-6 : tie.Need-same-length-6
 same-length-6 c = search needs
 
 returns-6 : tie.Need-returns-6
-returns-6 c = cc
+returns-6 c = tells buildTold (cc)
 
 same-length-7 : tie.Need-same-length-7
 same-length-7 c = search needs
 
 returns-7 : tie.Need-returns-7
-returns-7 c = cc
+returns-7 c = tells buildTold (cc)
 
 pub build-spec : {M : Type 1} → statement M
 build-spec =

@@ -1,16 +1,15 @@
 -- `build::sahara_reset` meets its contract: refused where the test says so, else the header is the packet. Assumes nothing.
-use mathlib.Core.Path.{sym}
 use native.Mathlib.Omega.{arith}
 use Rattle.field.specs.Field.{leBytes}
 use Rattle.build.specs.Build.{fields, bytesOf}
 use Rattle.build.specs.declared.Request.the-variants as Q
-use Rattle.build.proofs.Laws.{build-short, builds}
+use Rattle.build.proofs.Laws.{refuses, builds}
 use borrow.Author.Needs.{needs}
 use Rattle.build.proofs.sahara_reset.Statement.{statement}
 use Rattle.build.proofs.sahara_reset.Tie as tie
 
 returns : tie.Need-returns
-returns c = sym (build-short _ _ (omega arith))
+returns c = refuses _ _ (omega arith)
 
 sahara-send-generic-requires : tie.Need-sahara-send-generic-requires
 sahara-send-generic-requires c κs = search needs

@@ -1,16 +1,15 @@
 -- `build::sahara_send_cmd_exec` meets its contract: refused where the test says so, else the packet's three words. Assumes nothing.
-use mathlib.Core.Path.{sym}
 use native.Mathlib.Omega.{arith}
 use Rattle.field.specs.Field.{leBytes}
 use Rattle.build.specs.Build.{fields, bytesOf}
 use Rattle.build.specs.declared.Request.the-variants as Q
-use Rattle.build.proofs.Laws.{build-short, builds}
+use Rattle.build.proofs.Laws.{refuses, builds}
 use borrow.Author.Needs.{needs}
 use Rattle.build.proofs.sahara_send_cmd_exec.Statement.{statement}
 use Rattle.build.proofs.sahara_send_cmd_exec.Tie as tie
 
 returns : tie.Need-returns
-returns c = sym (build-short _ _ (omega arith))
+returns c = refuses _ _ (omega arith)
 
 command-number-requires : tie.Need-command-number-requires
 command-number-requires c κs = search needs

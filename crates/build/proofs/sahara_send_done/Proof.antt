@@ -1,8 +1,7 @@
 -- `build::sahara_send_done` meets its contract: refused where the test says so, else the header is the packet. Assumes nothing.
-use mathlib.Core.Path.{sym}
 use native.Mathlib.Omega.{arith}
 use Rattle.build.specs.declared.Request.the-variants as Q
-use Rattle.build.proofs.Laws.{build-short, builds}
+use Rattle.build.proofs.Laws.{refuses, builds}
 use Rattle.field.specs.Field.{leBytes}
 use Rattle.build.specs.Build.{fields, bytesOf}
 use borrow.Author.Needs.{needs}
@@ -10,7 +9,7 @@ use Rattle.build.proofs.sahara_send_done.Statement.{statement}
 use Rattle.build.proofs.sahara_send_done.Tie as tie
 
 returns : tie.Need-returns
-returns c = sym (build-short _ _ (omega arith))
+returns c = refuses _ _ (omega arith)
 
 kind-number-requires : tie.Need-kind-number-requires
 kind-number-requires c κs = search needs

@@ -1,16 +1,15 @@
 -- `build::sahara_switch_mode` meets its contract: refused where the test says so, else the packet's three words. Assumes nothing.
-use mathlib.Core.Path.{sym}
 use native.Mathlib.Omega.{arith}
 use Rattle.field.specs.Field.{leBytes}
 use Rattle.build.specs.Build.{fields, bytesOf}
 use Rattle.build.specs.declared.Request.the-variants as Q
-use Rattle.build.proofs.Laws.{build-short, builds}
+use Rattle.build.proofs.Laws.{refuses, builds}
 use borrow.Author.Needs.{needs}
 use Rattle.build.proofs.sahara_switch_mode.Statement.{statement}
 use Rattle.build.proofs.sahara_switch_mode.Tie as tie
 
 returns : tie.Need-returns
-returns c = sym (build-short _ _ (omega arith))
+returns c = refuses _ _ (omega arith)
 
 mode-number-requires : tie.Need-mode-number-requires
 mode-number-requires c κs = search needs

@@ -6,14 +6,15 @@ use native.Mathlib.Omega.{arith}
 use denote.Ref.{now}
 use lib.ListN.{length}
 use borrow.Author.Tests.{lt-ltb, le-ltb, le-leb, lt-leb}
-use Rattle.bundle.specs.Bundle.{countOf, slotStartOf, slotLengthOf, dataFrom, absent, slotOf}
+use Rattle.base.proofs.Telling.{tells}
+use Rattle.bundle.specs.Bundle.{countOf, slotStartOf, slotLengthOf, dataFrom, absent, slotOf, slotTold}
 use borrow.Author.Needs.{needs}
 use Rattle.bundle.proofs.slot_at.Statement.{statement}
 use Rattle.bundle.proofs.slot_at.Tie as tie
 
 returns : tie.Need-returns
 unfolding slotOf
-returns c = simp (lt-ltb _ _ (c .if1 .taken))
+returns c = tells slotTold (simp (lt-ltb _ _ (c .if1 .taken)))
 
 number-requires : tie.Need-number-requires
 number-requires c κs = search needs
@@ -30,7 +31,7 @@ returns-2 c =
     let B = now (c .before .before .before .before .args .b) in
     let l : 8 ≤ length B = omega arith in
     let d : length B < dataFrom B = omega arith in
-    simp (le-ltb _ _ l, lt-ltb _ _ d)
+    tells slotTold (simp (le-ltb _ _ l, lt-ltb _ _ d))
 
 returns-3 : tie.Need-returns-3
 unfolding slotOf
@@ -39,8 +40,8 @@ returns-3 c =
     let B = now (a .b) in
     let l : 8 ≤ length B = omega arith in
     let d : dataFrom B ≤ length B = omega arith in
-    let n : countOf B ≤ a .i = omega arith in
-    simp (le-ltb _ _ l, le-ltb _ _ d, le-leb _ _ n)
+    let n : countOf B ≤ a .slot .0 = omega arith in
+    tells slotTold (simp (le-ltb _ _ l, le-ltb _ _ d, le-leb _ _ n))
 
 start-of-requires : tie.Need-start-of-requires
 start-of-requires c κs = search needs
@@ -58,15 +59,15 @@ returns-4 c =
     let B = now (a .b) in
     let l : 8 ≤ length B = omega arith in
     let d : dataFrom B ≤ length B = omega arith in
-    let n : a .i < countOf B = omega arith in
-    let e : absent B (a .i) ≡ true = cc in
-    simp (le-ltb _ _ l, le-ltb _ _ d, lt-leb _ _ n, e)
+    let n : a .slot .0 < countOf B = omega arith in
+    let e : absent B (a .slot .0) ≡ true = cc in
+    tells slotTold (simp (le-ltb _ _ l, le-ltb _ _ d, lt-leb _ _ n, e))
+
+add-from : tie.Need-add-from
+add-from c = search needs
 
 add-if5 : tie.Need-add-if5
 add-if5 c = search needs
-
-add-if5-2 : tie.Need-add-if5-2
-add-if5-2 c = search needs
 
 returns-5 : tie.Need-returns-5
 unfolding slotOf
@@ -75,13 +76,10 @@ returns-5 c =
     let B = now (a .b) in
     let l : 8 ≤ length B = omega arith in
     let d : dataFrom B ≤ length B = omega arith in
-    let n : a .i < countOf B = omega arith in
-    let e : absent B (a .i) ≡ false = cc in
-    let o : length B < dataFrom B + slotStartOf B (a .i) + slotLengthOf B (a .i) = omega arith in
-    simp (le-ltb _ _ l, le-ltb _ _ d, lt-leb _ _ n, e, lt-ltb _ _ o)
-
-add-t7 : tie.Need-add-t7
-add-t7 c = search needs
+    let n : a .slot .0 < countOf B = omega arith in
+    let e : absent B (a .slot .0) ≡ false = cc in
+    let o : length B < dataFrom B + slotStartOf B (a .slot .0) + slotLengthOf B (a .slot .0) = omega arith in
+    tells slotTold (simp (le-ltb _ _ l, le-ltb _ _ d, lt-leb _ _ n, e, lt-ltb _ _ o))
 
 returns-6 : tie.Need-returns-6
 unfolding slotOf
@@ -90,10 +88,10 @@ returns-6 c =
     let B = now (a .b) in
     let l : 8 ≤ length B = omega arith in
     let d : dataFrom B ≤ length B = omega arith in
-    let n : a .i < countOf B = omega arith in
-    let e : absent B (a .i) ≡ false = cc in
-    let o : dataFrom B + slotStartOf B (a .i) + slotLengthOf B (a .i) ≤ length B = omega arith in
-    simp (le-ltb _ _ l, le-ltb _ _ d, lt-leb _ _ n, e, le-ltb _ _ o) cc
+    let n : a .slot .0 < countOf B = omega arith in
+    let e : absent B (a .slot .0) ≡ false = cc in
+    let o : dataFrom B + slotStartOf B (a .slot .0) + slotLengthOf B (a .slot .0) ≤ length B = omega arith in
+    tells slotTold (simp (le-ltb _ _ l, le-ltb _ _ d, lt-leb _ _ n, e, le-ltb _ _ o) cc)
 
 pub slot-at-spec : {M : Type 1} → statement M
 slot-at-spec =
@@ -109,8 +107,7 @@ slot-at-spec =
     length-of-requires
     is-absent-requires
     returns-4
+    add-from
     add-if5
-    add-if5-2
     returns-5
-    add-t7
     returns-6)

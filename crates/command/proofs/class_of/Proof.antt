@@ -90,13 +90,17 @@ returns-17 : tie.Need-returns-17
 unfolding classOf kinds unimplemented
 returns-17 c = rw (c .match .keys15) refl
 
--- 1..20 and none of the single numbers
+-- the numbers of the arms of a single number
+abbrev singles : List ℕ
+singles = 1 ∷ 2 ∷ 3 ∷ 4 ∷ 5 ∷ 6 ∷ 8 ∷ 11 ∷ 14 ∷ 15 ∷ 16 ∷ 17 ∷ 18 ∷ 7 ∷ []
+
+-- 1..20 and none of these
 returns-18 : tie.Need-returns-18
 unfolding classOf kinds unimplemented
 returns-18 c =
     let n : ℕ = c .before .before .before .args .command in
     let r = c .before .before .match .rest in
-    let e : among n (1 ∷ 2 ∷ 3 ∷ 4 ∷ 5 ∷ 6 ∷ 8 ∷ 11 ∷ 14 ∷ 15 ∷ 16 ∷ 17 ∷ 18 ∷ 7 ∷ []) ≡ false =
+    let e : among n singles ≡ false =
     simp (
       ne-eqb n 1 (λ q. r .0 .0 .0 .0 .0 .0 .0 .0 .0 .0 .0 .0 .0 .0 .1 q),
       ne-eqb n 2 (λ q. r .0 .0 .0 .0 .0 .0 .0 .0 .0 .0 .0 .0 .0 .1 q),
@@ -113,8 +117,8 @@ returns-18 c =
       ne-eqb n 18 (λ q. r .0 .0 .1 q),
       ne-eqb n 7 (λ q. r .1 q),
     ) in
-    unimplemented-is _
-    (rw e at (in-range (λ (m : ℕ). pick (among m (1 ∷ 2 ∷ 3 ∷ 4 ∷ 5 ∷ 6 ∷ 8 ∷ 11 ∷ 14 ∷ 15 ∷ 16 ∷ 17 ∷ 18 ∷ 7 ∷ [])) true (isUnimplemented (classOf m))) 1 20 n tt (omega arith) (omega arith)))
+    let t = in-range (λ (m : ℕ). pick (among m singles) true (isUnimplemented (classOf m))) 1 20 n tt (omega arith) (omega arith) in
+    unimplemented-is _ (rw e at t)
 
 pub class-of-spec : {M : Type 1} → statement M
 class-of-spec =

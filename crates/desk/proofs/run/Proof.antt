@@ -22,6 +22,9 @@ abbrev μ-loop : tie.MeasureT-loop
 open-requires : tie.Need-open-requires Inv-loop μ-loop
 open-requires c κs = search needs
 
+begin-requires : tie.Need-begin-requires Inv-loop μ-loop
+begin-requires c κs = search needs
+
 loop-holds : tie.Need-loop-holds Inv-loop μ-loop
 loop-holds c = search needs
 
@@ -93,6 +96,7 @@ run-spec =
     Inv-loop
     μ-loop
     open-requires
+    begin-requires
     loop-holds
     add-turns
     refill-requires

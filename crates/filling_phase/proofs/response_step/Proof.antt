@@ -5,6 +5,8 @@ use borrow.Author.Tests.{lt-ltb, le-ltb}
 use Rattle.build.specs.Build as B
 use Rattle.build.specs.declared.Request.the-variants as Q
 use Rattle.build.proofs.Laws.{build-long}
+use Rattle.base.proofs.Telling.{tells}
+use Rattle.session.specs.Answers.{outcomeTold}
 use Rattle.session.specs.declared.Phase.the-variants as P
 use Rattle.session.specs.Outcome.{Outcome}
 use Rattle.session.specs.FillingPhase.{responseOf}
@@ -39,8 +41,9 @@ unfolding responseStep
 returns c =
     let g = c .before .before in
     let a = begun g .args in
-    guard-refused (a .s) (P.Response (a .x)) (now (a .table)) (now (a .reply)) (now (a .out)) _ (g .guard .ensures)
-    (g .before .before .filling-limit .ensures) (c .before .if1 .taken) (c .untouched .ensures)
+    tells outcomeTold
+    (guard-refused (a .s) (P.Response (a .x)) (now (a .table)) (now (a .reply)) (now (a .out)) _ (g .guard .ensures)
+    (g .before .before .filling-limit .ensures) (c .before .if1 .taken) (c .untouched .ensures))
 
 fill-requires : tie.Need-fill-requires
 fill-requires c κs =
@@ -77,7 +80,7 @@ returns-2 c =
     let i = c .before in
     let f = i .before .before .before .before in
     let e = f .fill .ensures in
-    behind f (simp (lt-ltb _ _ (rw (e .0) at (i .if2 .taken)), e .1, e .0, c .moved .ensures))
+    tells outcomeTold (behind f (simp (lt-ltb _ _ (rw (e .0) at (i .if2 .taken)), e .1, e .0, c .moved .ensures)))
 
 build-requires : tie.Need-build-requires
 build-requires c κs = search needs
@@ -101,8 +104,8 @@ returns-3 c =
     let a = begun g .args in
     let e = f .fill .ensures in
     let h = passed (a .s) _ (now (a .out)) (g .guard .ensures) (f .before .before .if1 .left) .room in
-    let b = ap (λ (u : B.BuildOutcome). u .out) (w .build .ensures ∙ build-long Q.SwitchMode (now (a .out)) h) in
-    behind f (simp (le-ltb _ _ (rw (e .0) at (i .if2 .left)), e .1, e .0, c .moved2 .ensures, b))
+    let b = ap (λ (u : B.BuildOutcome). u .out) (w .build .ensures .is ∙ build-long Q.SwitchMode (now (a .out)) h) in
+    tells outcomeTold (behind f (simp (le-ltb _ _ (rw (e .0) at (i .if2 .left)), e .1, e .0, c .moved2 .ensures, b)))
 
 pub response-step-spec : {M : Type 1} → statement M
 response-step-spec =

@@ -1,6 +1,8 @@
 -- `filling_phase::switched_step` meets its contract: by the guard's number. Assumes nothing.
 use mathlib.Core.Path.{refl, ap}
 use denote.Ref.{now}
+use Rattle.base.proofs.Telling.{tells}
+use Rattle.session.specs.Answers.{outcomeTold}
 use Rattle.session.specs.declared.Phase.the-variants as P
 use Rattle.session.specs.declared.Stepped.{Stepped}
 use Rattle.session.specs.Outcome.{outcome}
@@ -22,8 +24,9 @@ unfolding switchedStep
 returns c =
     let g = c .before .before in
     let a = g .before .before .before .before .args in
-    guard-refused (a .s) (P.Switched (a .k)) (now (a .table)) (now (a .reply)) (now (a .out)) _ (g .guard .ensures) refl
-    (c .before .if1 .taken) (c .untouched .ensures)
+    tells outcomeTold
+    (guard-refused (a .s) (P.Switched (a .k)) (now (a .table)) (now (a .reply)) (now (a .out)) _ (g .guard .ensures) refl
+    (c .before .if1 .taken) (c .untouched .ensures))
 
 moved-requires : tie.Need-moved-requires
 moved-requires c κs = search needs
@@ -33,8 +36,9 @@ unfolding switchedStep switchedOf
 returns-2 c =
     let g = c .before .before in
     let a = g .before .before .before .before .args in
-    guard-passed (a .s) (P.Switched (a .k)) (now (a .table)) (now (a .reply)) (now (a .out)) _ (g .guard .ensures) refl
-    (c .before .if1 .left) (ap (λ (r : Stepped). outcome r (now (a .table)) (now (a .reply)) (now (a .out))) (c .moved .ensures))
+    tells outcomeTold
+    (guard-passed (a .s) (P.Switched (a .k)) (now (a .table)) (now (a .reply)) (now (a .out)) _ (g .guard .ensures) refl
+    (c .before .if1 .left) (ap (λ (r : Stepped). outcome r (now (a .table)) (now (a .reply)) (now (a .out))) (c .moved .ensures)))
 
 pub switched-step-spec : {M : Type 1} → statement M
 switched-step-spec =

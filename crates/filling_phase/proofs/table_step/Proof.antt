@@ -2,6 +2,8 @@
 use mathlib.Core.Path.{_≡_}
 use denote.Ref.{now}
 use borrow.Author.Tests.{lt-ltb, le-ltb}
+use Rattle.base.proofs.Telling.{tells}
+use Rattle.session.specs.Answers.{outcomeTold}
 use Rattle.session.specs.declared.Phase.the-variants as P
 use Rattle.session.specs.Outcome.{Outcome}
 use Rattle.session.specs.FillingPhase.{tableOf}
@@ -33,8 +35,9 @@ unfolding tableStep
 returns c =
     let g = c .before .before in
     let a = begun g .args in
-    guard-refused (a .s) (P.Table (a .x)) (now (a .table)) (now (a .reply)) (now (a .out)) _ (g .guard .ensures)
-    (g .before .filling-limit .ensures) (c .before .if1 .taken) (c .untouched .ensures)
+    tells outcomeTold
+    (guard-refused (a .s) (P.Table (a .x)) (now (a .table)) (now (a .reply)) (now (a .out)) _ (g .guard .ensures)
+    (g .before .filling-limit .ensures) (c .before .if1 .taken) (c .untouched .ensures))
 
 fill-requires : tie.Need-fill-requires
 fill-requires c κs =
@@ -68,7 +71,7 @@ returns-2 c =
     let i = c .before in
     let f = i .before .before .before .before in
     let e = f .fill .ensures in
-    behind f (simp (lt-ltb _ _ (rw (e .0) at (i .if2 .taken)), e .1, e .0, c .moved .ensures))
+    tells outcomeTold (behind f (simp (lt-ltb _ _ (rw (e .0) at (i .if2 .taken)), e .1, e .0, c .moved .ensures)))
 
 moved-requires-2 : tie.Need-moved-requires-2
 moved-requires-2 c κs = search needs
@@ -82,7 +85,7 @@ returns-3 c =
     let i = c .before in
     let f = i .before .before .before .before in
     let e = f .fill .ensures in
-    behind f (simp (le-ltb _ _ (rw (e .0) at (i .if2 .left)), e .1, e .0, c .moved2 .ensures))
+    tells outcomeTold (behind f (simp (le-ltb _ _ (rw (e .0) at (i .if2 .left)), e .1, e .0, c .moved2 .ensures)))
 
 pub table-step-spec : {M : Type 1} → statement M
 table-step-spec =

@@ -1,6 +1,8 @@
 -- `host::closed` meets its contract: by whether the session is ended. Assumes nothing.
 use mathlib.Core.Path.{_≡_, sym, _∙_}
 use mathlib.Core.Bool.{true, false}
+use Rattle.base.proofs.Telling.{tells}
+use Rattle.session.specs.Answers.{steppedTold}
 use Rattle.session.specs.Outcome.{isEnded}
 use Rattle.host.proofs.Laws.{closed-live, closed-ended}
 use borrow.Author.Needs.{needs}
@@ -17,7 +19,7 @@ returns : tie.Need-returns
 returns c =
     let s = c .before .before .before .args .s in
     let e : isEnded (s .phase) ≡ true = cc in
-    c .untouched .ensures ∙ sym (closed-ended s e)
+    tells steppedTold (c .untouched .ensures ∙ sym (closed-ended s e))
 
 moved-requires : tie.Need-moved-requires
 moved-requires c κs = search needs
@@ -26,7 +28,7 @@ returns-2 : tie.Need-returns-2
 returns-2 c =
     let s = c .before .before .before .args .s in
     let e : isEnded (s .phase) ≡ false = cc in
-    c .moved .ensures ∙ sym (closed-live s e)
+    tells steppedTold (c .moved .ensures ∙ sym (closed-live s e))
 
 pub closed-spec : {M : Type 1} → statement M
 closed-spec =

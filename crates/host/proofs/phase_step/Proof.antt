@@ -5,6 +5,8 @@ use native.Mathlib.Omega.{arith}
 use borrow.Author.Tests.{lt-ltb, le-ltb}
 use denote.Ref.{now}
 use lib.ListN.{length}
+use Rattle.base.proofs.Telling.{tells}
+use Rattle.session.specs.Answers.{outcomeTold}
 use Rattle.session.specs.declared.Phase.{Phase}
 use Rattle.session.specs.declared.Stepped.{Stepped}
 use Rattle.session.specs.Outcome.{Outcome, outcome}
@@ -66,7 +68,9 @@ returns c =
     let g = c .before .before .before .before .before .before .before .before .before .before .before in
     let a = g .args in
     let l : length (now (a .out)) < 48 = omega arith in
-    ap (λ (r : Stepped). outcome r (now (a .table)) (now (a .reply)) (now (a .out))) (c .untouched .ensures) ∙ sym (ap (lent g) (c .before .before .before .p7 .given .1) ∙ simp (lt-ltb _ _ l))
+    tells outcomeTold
+    (ap (λ (r : Stepped). outcome r (now (a .table)) (now (a .reply)) (now (a .out))) (c .untouched .ensures)
+    ∙ sym (ap (lent g) (c .before .before .before .p7 .given .1) ∙ simp (lt-ltb _ _ l)))
 
 untouched-requires-2 : tie.Need-untouched-requires-2
 untouched-requires-2 c κs = tt
@@ -83,7 +87,9 @@ same-length-3 c = search needs
 returns-2 : tie.Need-returns-2
 returns-2 c =
     let g = c .before .before .before .before .before .before .before .before .before .before .before .before .before .before .before in
-    c .before .before .packet-step .ensures ∙ sym (ap (lent g) (c .before .before .before .before .before .before .before .p .given .1))
+    tells outcomeTold
+    (c .before .before .packet-step .ensures .is
+    ∙ sym (ap (lent g) (c .before .before .before .before .before .before .before .p .given .1)))
 
 same-length-4 : tie.Need-same-length-4
 same-length-4 c = search needs
@@ -97,7 +103,9 @@ same-length-6 c = search needs
 returns-3 : tie.Need-returns-3
 returns-3 c =
     let g = c .before .before .before .before .before .before .before .before .before .before .before .before .before .before .before .before .before in
-    c .before .before .before .before .response-step .ensures ∙ sym (ap (lent g) (c .before .before .before .before .before .before .before .before .before .p2 .given .1))
+    tells outcomeTold
+    (c .before .before .before .before .response-step .ensures .is
+    ∙ sym (ap (lent g) (c .before .before .before .before .before .before .before .before .before .p2 .given .1)))
 
 same-length-7 : tie.Need-same-length-7
 same-length-7 c = search needs
@@ -111,7 +119,9 @@ same-length-9 c = search needs
 returns-4 : tie.Need-returns-4
 returns-4 c =
     let g = c .before .before .before .before .before .before .before .before .before .before .before .before .before in
-    c .switched-step .ensures ∙ sym (ap (lent g) (c .before .before .before .before .before .p3 .given .1))
+    tells outcomeTold
+    (c .switched-step .ensures .is
+    ∙ sym (ap (lent g) (c .before .before .before .before .before .p3 .given .1)))
 
 same-length-10 : tie.Need-same-length-10
 same-length-10 c = search needs
@@ -125,7 +135,9 @@ same-length-12 c = search needs
 returns-5 : tie.Need-returns-5
 returns-5 c =
     let g = c .before .before .before .before .before .before .before .before .before .before .before .before .before .before .before in
-    c .before .before .table-step .ensures ∙ sym (ap (lent g) (c .before .before .before .before .before .before .before .p4 .given .1))
+    tells outcomeTold
+    (c .before .before .table-step .ensures .is
+    ∙ sym (ap (lent g) (c .before .before .before .before .before .before .before .p4 .given .1)))
 
 same-length-13 : tie.Need-same-length-13
 same-length-13 c = search needs
@@ -139,7 +151,9 @@ same-length-15 c = search needs
 returns-6 : tie.Need-returns-6
 returns-6 c =
     let g = c .before .before .before .before .before .before .before .before .before .before .before .before .before in
-    c .between-step .ensures ∙ sym (ap (lent g) (c .before .before .before .before .before .p5 .given .1))
+    tells outcomeTold
+    (c .between-step .ensures .is
+    ∙ sym (ap (lent g) (c .before .before .before .before .before .p5 .given .1)))
 
 same-length-16 : tie.Need-same-length-16
 same-length-16 c = search needs
@@ -153,14 +167,18 @@ same-length-18 c = search needs
 returns-7 : tie.Need-returns-7
 returns-7 c =
     let g = c .before .before .before .before .before .before .before .before .before .before .before .before .before .before .before in
-    c .before .before .region-step .ensures ∙ sym (ap (lent g) (c .before .before .before .before .before .before .before .p6 .given .1))
+    tells outcomeTold
+    (c .before .before .region-step .ensures .is
+    ∙ sym (ap (lent g) (c .before .before .before .before .before .before .before .p6 .given .1)))
 
 returns-8 : tie.Need-returns-8
 returns-8 c =
     let g = c .before .before .before .before .before .before .before .before .before .before .before in
     let a = g .args in
     let l : 48 ≤ length (now (a .out)) = omega arith in
-    ap (λ (r : Stepped). outcome r (now (a .table)) (now (a .reply)) (now (a .out))) (c .untouched2 .ensures) ∙ sym (ap (lent g) (c .before .before .before .p7 .given .1) ∙ simp (le-ltb _ _ l))
+    tells outcomeTold
+    (ap (λ (r : Stepped). outcome r (now (a .table)) (now (a .reply)) (now (a .out))) (c .untouched2 .ensures)
+    ∙ sym (ap (lent g) (c .before .before .before .p7 .given .1) ∙ simp (le-ltb _ _ l)))
 
 pub phase-step-spec : {M : Type 1} → statement M
 phase-step-spec =

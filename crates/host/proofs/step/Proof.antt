@@ -5,6 +5,8 @@ use denote.Ref.{now}
 use Rattle.bundle.specs.Bundle.{wellFormed, imagesChecked, namesChecked}
 use Rattle.bundle.specs.declared.Checked.the-variants as C
 use Rattle.bundle.proofs.Laws.{checked-good, checked-refused}
+use Rattle.base.proofs.Telling.{tells}
+use Rattle.session.specs.Answers.{outcomeTold}
 use Rattle.session.specs.declared.Stepped.{Stepped}
 use Rattle.session.specs.Outcome.{outcome}
 use Rattle.host.proofs.Laws.{step-1, step-2, step-phase}
@@ -29,9 +31,10 @@ returns c =
     let a = c .before .before .before .before .before .before .before .before .before .before .args in
     let B = now (a .set) in
     let w : wellFormed true B ≡ false =
-    checked-refused (wellFormed true B) 1 _ (sym (c .before .before .before .check-images .ensures) ∙ c .before .enum-told2 .given .1) in
-    ap (λ (r : Stepped). outcome r (now (a .table)) (now (a .reply)) (now (a .out))) (c .untouched .ensures)
-    ∙ sym (step-1 (a .s) (now (a .delivery)) (now (a .set)) (now (a .names)) (now (a .table)) (now (a .reply)) (now (a .out)) w)
+    checked-refused (wellFormed true B) 1 _ (sym (c .before .before .before .check-images .ensures .is) ∙ c .before .enum-told2 .given .1) in
+    tells outcomeTold
+    (ap (λ (r : Stepped). outcome r (now (a .table)) (now (a .reply)) (now (a .out))) (c .untouched .ensures)
+    ∙ sym (step-1 (a .s) (now (a .delivery)) (now (a .set)) (now (a .names)) (now (a .table)) (now (a .reply)) (now (a .out)) w))
 
 check-names-requires : tie.Need-check-names-requires
 check-names-requires c κs = search needs
@@ -51,9 +54,12 @@ returns-2 c =
     let B = now (a .names) in
     let e : imagesChecked (now (a .set)) ≡ C.Good = cc in
     let w : wellFormed false B ≡ false =
-    checked-refused (wellFormed false B) 2 _ (sym (c .before .before .before .check-names .ensures) ∙ c .before .enum-told4 .given .1) in
-    ap (λ (r : Stepped). outcome r (now (a .table)) (now (a .reply)) (now (a .out))) (c .untouched2 .ensures)
-    ∙ sym (step-2 (a .s) (now (a .delivery)) (now (a .set)) (now (a .names)) (now (a .table)) (now (a .reply)) (now (a .out)) (checked-good (wellFormed true (now (a .set))) 1 e) w)
+    checked-refused (wellFormed false B) 2 _ (sym (c .before .before .before .check-names .ensures .is) ∙ c .before .enum-told4 .given .1) in
+    tells outcomeTold
+    (ap (λ (r : Stepped). outcome r (now (a .table)) (now (a .reply)) (now (a .out))) (c .untouched2 .ensures)
+    ∙ sym
+    (step-2 (a .s) (now (a .delivery)) (now (a .set)) (now (a .names)) (now (a .table)) (now (a .reply)) (now (a .out))
+    (checked-good (wellFormed true (now (a .set))) 1 e) w))
 
 phase-step-requires : tie.Need-phase-step-requires
 phase-step-requires c κs = search needs
@@ -72,9 +78,10 @@ returns-3 c =
     let a = c .before .before .before .before .before .before .before .before .before .before .before .before .before .before .before .before .before .before .before .before .before .before .args in
     let e : imagesChecked (now (a .set)) ≡ C.Good = cc in
     let f : namesChecked (now (a .names)) ≡ C.Good = cc in
-    c .before .before .before .before .before .before .phase-step .ensures
+    tells outcomeTold
+    (c .before .before .before .before .before .before .phase-step .ensures .is
     ∙ sym (step-phase (a .s) (now (a .delivery)) (now (a .set)) (now (a .names)) (now (a .table)) (now (a .reply)) (now (a .out))
-    (checked-good (wellFormed true (now (a .set))) 1 e) (checked-good (wellFormed false (now (a .names))) 2 f))
+    (checked-good (wellFormed true (now (a .set))) 1 e) (checked-good (wellFormed false (now (a .names))) 2 f)))
 
 pub step-spec : {M : Type 1} → statement M
 step-spec =

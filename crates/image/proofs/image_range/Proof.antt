@@ -5,6 +5,8 @@ use denote.Ref.{now}
 use Rattle.bundle.specs.Bundle.{wellFormed, imagesChecked}
 use Rattle.bundle.specs.declared.Checked.the-variants as C
 use Rattle.bundle.proofs.Laws.{checked-good, checked-refused}
+use Rattle.base.proofs.Telling.{tells}
+use Rattle.image.specs.Image.{rangeTold}
 use Rattle.image.proofs.Laws.{range-formed, range-malformed}
 use borrow.Author.Needs.{needs}
 use Rattle.image.proofs.image_range.Statement.{statement}
@@ -23,8 +25,8 @@ returns : tie.Need-returns
 returns c =
     let a = c .before .before .before .before .args in
     let B = now (a .set) in
-    let e = sym (c .before .before .check-images .ensures) ∙ c .enum-told2 .given .1 in
-    sym (range-malformed B (a .id .0) (a .offset) (a .len) (checked-refused (wellFormed true B) 1 _ e))
+    let e = sym (c .before .before .check-images .ensures .is) ∙ c .enum-told2 .given .1 in
+    tells rangeTold (sym (range-malformed B (a .id .0) (a .offset) (a .len) (checked-refused (wellFormed true B) 1 _ e)))
 
 image-range-unjudged-requires : tie.Need-image-range-unjudged-requires
 image-range-unjudged-requires c κs = search needs
@@ -34,7 +36,8 @@ returns-2 c =
     let a = c .before .before .before .before .before .args in
     let B = now (a .set) in
     let e : imagesChecked B ≡ C.Good = cc in
-    c .image-range-unjudged .ensures ∙ sym (range-formed B (a .id .0) (a .offset) (a .len) (checked-good (wellFormed true B) 1 e))
+    let f = range-formed B (a .id .0) (a .offset) (a .len) (checked-good (wellFormed true B) 1 e) in
+    tells rangeTold (c .image-range-unjudged .ensures .is ∙ sym f)
 
 pub image-range-spec : {M : Type 1} → statement M
 image-range-spec =

@@ -5,7 +5,8 @@ use denote.Ref.{now}
 use Rattle.bundle.specs.Bundle.{countOf, slotOf}
 use Rattle.bundle.specs.declared.Slot.the-variants as S
 use Rattle.bundle.proofs.Laws.{slot-within}
-use Rattle.image.specs.Image.{slotFor}
+use Rattle.base.proofs.Telling.{tells}
+use Rattle.image.specs.Image.{slotFor, rangeTold}
 use borrow.Author.Needs.{needs}
 use Rattle.image.proofs.image_range_unjudged.Statement.{statement}
 use Rattle.image.proofs.image_range_unjudged.Tie as tie
@@ -42,21 +43,21 @@ returns c =
     let B = now (a .set) in
     let g = c .before .before .start .given .0 in
     let s : slotOf B (slotFor (countOf B) (a .id .0)) ≡ S.At (g .0) (g .1 .0) = cc in
-    simp s (c .part-of .ensures)
+    tells rangeTold (simp s (c .part-of .ensures))
 
 returns-2 : tie.Need-returns-2
 returns-2 c =
     let a = c .before .before .before .before .before .before .args in
     let B = now (a .set) in
     let s : slotOf B (slotFor (countOf B) (a .id .0)) ≡ S.Absent = cc in
-    simp s
+    tells rangeTold (simp s)
 
 returns-3 : tie.Need-returns-3
 returns-3 c =
     let a = c .before .before .before .before .before .before .args in
     let B = now (a .set) in
     let s : slotOf B (slotFor (countOf B) (a .id .0)) ≡ S.Missing = cc in
-    simp s
+    tells rangeTold (simp s)
 
 pub image-range-unjudged-spec : {M : Type 1} → statement M
 image-range-unjudged-spec =

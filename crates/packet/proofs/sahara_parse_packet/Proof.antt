@@ -4,13 +4,15 @@ use native.Mathlib.Omega.{arith}
 use borrow.Author.Needs.{needs}
 use denote.Ref.{now}
 use Rattle.command.specs.Command.{classOf}
+use Rattle.base.proofs.Telling.{tells}
 use Rattle.packet.specs.Packet.{byClass}
+use Rattle.packet.specs.Told.{decodedTold}
 use Rattle.packet.proofs.Laws.{decode-short, decode-whole, read-as}
 use Rattle.packet.proofs.sahara_parse_packet.Statement.{statement}
 use Rattle.packet.proofs.sahara_parse_packet.Tie as tie
 
 returns : tie.Need-returns
-returns c = decode-short _ (omega arith)
+returns c = tells decodedTold (decode-short _ (omega arith))
 
 word-requires : tie.Need-word-requires
 word-requires c κs = search needs
@@ -44,31 +46,35 @@ returns-2 c =
     let m = c .before .before .before .before in
     let r = m .before .before in
     let p = now (r .before .before .before .before .args .p) in
-    decode-whole p (r .before .before .if1 .left)
+    tells decodedTold
+    (decode-whole p (r .before .before .if1 .left)
     (c .packet-with .ensures
     ∙ rw (c .before .before .word2 .ensures, c .before .kind-of .ensures)
-    (read-as classOf (byClass p) (r .before .word .ensures) (r .class-of .ensures) (m .k .given .1)))
+    (read-as classOf (byClass p) (r .before .word .ensures) (r .class-of .ensures) (m .k .given .1))))
 
 returns-3 : tie.Need-returns-3
 returns-3 c =
     let r = c .before .before in
     let p = now (r .before .before .before .before .args .p) in
-    decode-whole p (r .before .before .if1 .left)
-    (read-as classOf (byClass p) (r .before .word .ensures) (r .class-of .ensures) (c .enum-told .given .1))
+    tells decodedTold
+    (decode-whole p (r .before .before .if1 .left)
+    (read-as classOf (byClass p) (r .before .word .ensures) (r .class-of .ensures) (c .enum-told .given .1)))
 
 returns-4 : tie.Need-returns-4
 returns-4 c =
     let r = c .before .before in
     let p = now (r .before .before .before .before .args .p) in
-    decode-whole p (r .before .before .if1 .left)
-    (read-as classOf (byClass p) (r .before .word .ensures) (r .class-of .ensures) (c .enum-told2 .given .1))
+    tells decodedTold
+    (decode-whole p (r .before .before .if1 .left)
+    (read-as classOf (byClass p) (r .before .word .ensures) (r .class-of .ensures) (c .enum-told2 .given .1)))
 
 returns-5 : tie.Need-returns-5
 returns-5 c =
     let r = c .before .before in
     let p = now (r .before .before .before .before .args .p) in
-    decode-whole p (r .before .before .if1 .left)
-    (read-as classOf (byClass p) (r .before .word .ensures) (r .class-of .ensures) (c .enum-told3 .given .1))
+    tells decodedTold
+    (decode-whole p (r .before .before .if1 .left)
+    (read-as classOf (byClass p) (r .before .word .ensures) (r .class-of .ensures) (c .enum-told3 .given .1)))
 
 pub sahara-parse-packet-spec : {M : Type 1} → statement M
 sahara-parse-packet-spec =

@@ -20,7 +20,7 @@ good : (c : tie.After-enum-told) → badLength (c .before .before .before .befor
 good c =
     let r = c .before .before in
     let a = r .before .before .before .before .before .before .args in
-    good-length (badLength (a .size)) (sym (r .sahara-read-packet-length .ensures) ∙ c .enum-told .given .1)
+    good-length (badLength (a .size)) (sym (r .sahara-read-packet-length .ensures .is) ∙ c .enum-told .given .1)
 
 sahara-read-packet-length-requires : tie.Need-sahara-read-packet-length-requires
 sahara-read-packet-length-requires c κs = search needs
@@ -43,7 +43,7 @@ returns c =
     let k = c .before .before in
     let r = k .before .before in
     let a = r .before .before .before .before .before .before .args in
-    let b = refused-length (badLength (a .size)) _ (sym (r .sahara-read-packet-length .ensures) ∙ k .enum-told2 .given .1) in
+    let b = refused-length (badLength (a .size)) _ (sym (r .sahara-read-packet-length .ensures .is) ∙ k .enum-told2 .given .1) in
     simp (b, c .moved .ensures, c .before .rest .ensures)
 
 rest-requires-2 : tie.Need-rest-requires-2

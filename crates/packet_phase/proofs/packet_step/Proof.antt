@@ -1,5 +1,7 @@
 -- `packet_phase::packet_step` meets its contract: by the guard's number. Assumes nothing.
 use denote.Ref.{now}
+use Rattle.base.proofs.Telling.{tells}
+use Rattle.session.specs.Answers.{outcomeTold}
 use Rattle.session.specs.declared.Phase.the-variants as P
 use Rattle.session.specs.Guard.{packetStep}
 use Rattle.turn.proofs.Laws.{passed, guard-refused, guard-passed}
@@ -25,8 +27,9 @@ returns c =
     let g = c .before .before in
     let b = g .before .before in
     let a = b .before .before .before .before .before .before .before .args in
-    guard-refused (a .s) (P.Packet (a .held)) (now (a .table)) (now (a .reply)) (now (a .out)) _ (g .guard .ensures) (b .held-limit .ensures)
-    (c .before .if1 .taken) (c .untouched .ensures)
+    tells outcomeTold
+    (guard-refused (a .s) (P.Packet (a .held)) (now (a .table)) (now (a .reply)) (now (a .out)) _ (g .guard .ensures) (b .held-limit .ensures)
+    (c .before .if1 .taken) (c .untouched .ensures))
 
 packet-requires : tie.Need-packet-requires
 packet-requires c κs =
@@ -44,8 +47,9 @@ returns-2 c =
     let g = q .before .before .before in
     let b = g .before .before in
     let a = b .before .before .before .before .before .before .before .args in
-    guard-passed (a .s) (P.Packet (a .held)) (now (a .table)) (now (a .reply)) (now (a .out)) _ (g .guard .ensures) (b .held-limit .ensures)
-    (q .before .before .if1 .left) (q .packet .ensures)
+    tells outcomeTold
+    (guard-passed (a .s) (P.Packet (a .held)) (now (a .table)) (now (a .reply)) (now (a .out)) _ (g .guard .ensures) (b .held-limit .ensures)
+    (q .before .before .if1 .left) (q .packet .ensures))
 
 pub packet-step-spec : {M : Type 1} → statement M
 packet-step-spec =

@@ -29,7 +29,7 @@ returns c =
     let a = c .before .before .before .before .before .before .before .before .args in
     let o : List ℕ = now (a .out) in
     let l : 48 ≤ length o = omega arith in
-    let e = c .before .before .before .before .before .build .ensures ∙ build-long (a .q) o l in
+    let e = c .before .before .before .before .before .build .ensures .is ∙ build-long (a .q) o l in
     let r : c .before .before .before .before .before .build .result ≡ T.Send (sizeOf (a .q)) = ap (λ (x : BuildOutcome). x .built) e in
     let k : c .before .k .given .0 .0 ≡ sizeOf (a .q) = cc in
     (rw k refl, ap (λ (x : BuildOutcome). x .out) e)
@@ -42,7 +42,7 @@ returns-2 c =
     let a = c .before .before .before .before .before .before .before .before .args in
     let o : List ℕ = now (a .out) in
     let l : 48 ≤ length o = omega arith in
-    let e = c .before .before .before .before .before .build .ensures ∙ build-long (a .q) o l in
+    let e = c .before .before .before .before .before .build .ensures .is ∙ build-long (a .q) o l in
     let r : c .before .before .before .before .before .build .result ≡ T.Send (sizeOf (a .q)) = ap (λ (x : BuildOutcome). x .built) e in
     let z : _≡_ {A = ℕ} 0 1 = cc in
     absurd (omega arith)

@@ -55,7 +55,7 @@ returns c =
     let p : take (m .least .result) w ≡ take (lengthField w) w = ap (λ (n : ℕ). take n w) k ∙ window-take w f (lengthField w) in
     c .before .before .act .ensures t y
     ∙ ap (acted (a .s) (a .taken) w t y (now (a .out)))
-    (j .judge .ensures ∙ ap (verdictOf (a .s .opening) (now (a .set)) (length t) (length y)) p)
+    (j .judge .ensures .is ∙ ap (verdictOf (a .s .opening) (now (a .set)) (length t) (length y)) p)
 
 pub whole-spec : {M : Type 1} → statement M
 whole-spec =

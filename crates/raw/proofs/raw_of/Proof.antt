@@ -19,7 +19,9 @@ backend-number-requires c κs = search needs
 
 returns : tie.Need-returns
 unfolding rawOf
-returns c = rw (c .before .before .mode-number .ensures, c .before .exec-number .ensures, c .backend-number .ensures, c .before .before .before .counts-of .ensures) refl
+returns c =
+    let m = c .before .before in
+    rw (m .mode-number .ensures, c .before .exec-number .ensures, c .backend-number .ensures, m .before .counts-of .ensures) refl
 
 pub raw-of-spec : {M : Type 1} → statement M
 raw-of-spec =

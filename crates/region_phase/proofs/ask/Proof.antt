@@ -1,58 +1,63 @@
--- `region_phase::ask` meets its contract: the limits give the calls what they require, and the test is the definition's. Assumes nothing.
-use Prim.Native.Nat.{_+_, _^_}
-use native.Mathlib.Omega.{arith}
+-- `region_phase::ask` meets its contract: the out buffer has room for the packet, and each part is what the call gives. Assumes nothing.
+use mathlib.Core.Path.{_≡_, ap, _∙_}
+use Prim.Native.Nat.{ℕ, _+_, _-_, min}
+use native.Mathlib.Numerals.{add-one}
 use denote.Ref.{now}
-use borrow.Author.Tests.{eq-eqb, ne-eqb, ltb-false}
-use Rattle.session.specs.RegionPhase.{askOf}
-use Rattle.turn.proofs.Laws.{entry-within}
-use Rattle.region_phase.proofs.Laws.{region-within}
+use Rattle.build.specs.Build.{BuildOutcome, front}
+use Rattle.build.specs.declared.Request.the-variants as Q
+use Rattle.build.proofs.Laws.{build-long}
+use Rattle.session.specs.RegionPhase.{asksFor}
 use borrow.Author.Needs.{needs}
 use Rattle.region_phase.proofs.ask.Statement.{statement}
 use Rattle.region_phase.proofs.ask.Tie as tie
 
-begin-region-requires : tie.Need-begin-region-requires
-begin-region-requires c κs =
-    let b = c .before .before .before .before .before in
-    let a = b .args in
-    let w = region-within 8 (a .k) (a .x) (now (a .table)) (b .pre .2) in
-    (omega arith, entry-within 8 (a .k) (a .x .entry) (now (a .table)) (w .entry) (w .table), ltb-false (2 ^ 63 + 1) (a .s .reads) (b .pre .1))
+chunk-size-requires : tie.Need-chunk-size-requires
+chunk-size-requires c κs = search needs
+
+sub-rest : tie.Need-sub-rest
+sub-rest c = search needs
+
+least-requires : tie.Need-least-requires
+least-requires c κs = search needs
+
+add-sahara-send-mem-read64 : tie.Need-add-sahara-send-mem-read64
+add-sahara-send-mem-read64 c = search needs
+
+sahara-send-mem-read64-requires : tie.Need-sahara-send-mem-read64-requires
+sahara-send-mem-read64-requires c κs = search needs
+
+recount-requires : tie.Need-recount-requires
+recount-requires c κs = search needs
+
+add-t8 : tie.Need-add-t8
+add-t8 c = search needs
 
 same-length : tie.Need-same-length
 same-length c = search needs
 
 returns : tie.Need-returns
-unfolding askOf
 returns c =
-    λ y.
-    let r = c .before .before in
-    simp (eq-eqb _ _ (r .before .before .if1 .taken)) (r .begin-region .ensures y)
-
-next-chunk-requires : tie.Need-next-chunk-requires
-next-chunk-requires c κs =
-    let b = c .before .before .before .before .before in
+    let m = c .before .before .before .sahara-send-mem-read64 in
+    let l = c .before .before .before .before .before .before in
+    let b = l .before .before .before .before in
     let a = b .args in
-    let w = region-within 8 (a .k) (a .x) (now (a .table)) (b .pre .2) in
-    (omega arith, omega arith, w .ends (λ q. omega arith), ltb-false (2 ^ 63 + 1) (a .s .reads) (b .pre .1))
-
-same-length-2 : tie.Need-same-length-2
-same-length-2 c = search needs
-
-returns-2 : tie.Need-returns-2
-unfolding askOf
-returns-2 c =
-    λ y.
-    let r = c .before .before in
-    let i = r .before .before in
-    let a = i .before .before .before .before .args in
-    simp (ne-eqb _ _ (i .if1 .left)) (r .next-chunk .ensures (now (a .table)) y)
+    let n : ℕ = l .least .result in
+    let e : n ≡ asksFor (a .opening) (a .x) =
+    l .least .ensures ∙ ap (λ (k : ℕ). min k (a .x .len - a .x .done)) (l .before .before .chunk-size .ensures) in
+    let u = m .ensures .is ∙ build-long (Q.MemRead64 (a .x .base + a .x .done) n) (now (a .out)) (b .pre .0) in
+    let o : m .last .0 ≡ front (Q.MemRead64 (a .x .base + a .x .done) n) (now (a .out)) = ap (λ (z : BuildOutcome). z .out) u in
+    (simp (c .recount .ensures, e, add-one), simp (o, e))
 
 pub ask-spec : {M : Type 1} → statement M
 ask-spec =
     tie.close
     (tie.spec
-    begin-region-requires
+    chunk-size-requires
+    sub-rest
+    least-requires
+    add-sahara-send-mem-read64
+    sahara-send-mem-read64-requires
+    recount-requires
+    add-t8
     same-length
-    returns
-    next-chunk-requires
-    same-length-2
-    returns-2)
+    returns)

@@ -6,11 +6,12 @@ use Prim.Native.Nat.{_+_, _^_}
 use native.Mathlib.Omega.{arith}
 use lib.Dec.{ltb}
 use denote.Ref.{now}
-use borrow.Author.Tests.{ltb-false}
+use borrow.Author.Tests.{ltb-false, le-leb, lt-leb}
 use Rattle.entry.specs.Entry.{entryOf, filenameOf}
 use Rattle.entry.specs.declared.RamdumpTable64.{RamdumpTable64}
 use Rattle.entry.proofs.Laws.{there-fits}
 use Rattle.filename.specs.Filename.{afterOpenCheck}
+use Rattle.session.specs.RegionPhase.{nextChunk}
 use Rattle.turn.proofs.Laws.{entry-told}
 use borrow.Author.Needs.{needs}
 use Rattle.region_phase.proofs.begin_region.Statement.{statement}
@@ -25,7 +26,7 @@ tested : (c : tie.After-check-after-open) → (let a = begun c .args in
     c .check-after-open .result ≡ afterOpenCheck (filenameOf 8 (entryOf 8 (now (a .table)) (a .x .entry))))
 tested c =
     let a = begun c .args in
-    c .check-after-open .ensures
+    c .check-after-open .ensures .is
     ∙ ap (λ (e : RamdumpTable64). afterOpenCheck (e .filename))
     (entry-told 8 (now (a .table)) (a .x .entry) (c .before .before .before .before .entry-at .ensures) (begun c .pre .1))
 
@@ -68,28 +69,49 @@ returns-2 c =
     let z : ltb (256 ^ 8) (a .x .base + a .x .len) ≡ true = sym (m .past-memory .ensures) ∙ c .before .if1 .taken in
     simp (sym (tested k) ∙ m .before .enum-told .given .1, z, c .moved2 .ensures)
 
-next-chunk-requires : tie.Need-next-chunk-requires
-next-chunk-requires c κs =
-    let m = c .before .before in
-    let b = begun (m .before .before .before) in
-    let a = b .args in
-    let l = ltb-false (256 ^ 8) (a .x .base + a .x .len) (sym (m .past-memory .ensures) ∙ c .before .if1 .left) in
-    let h = there-fits 8 (now (a .table)) (a .x .entry) (b .pre .1) in
+close-requires : tie.Need-close-requires
+close-requires c κs =
+    let b = begun (c .before .before .before .before .before .before) in
+    let h = there-fits 8 (now (b .args .table)) (b .args .x .entry) (b .pre .1) in
     omega arith
+
+returns-3 : tie.Need-returns-3
+unfolding nextChunk
+returns-3 c =
+    λ y.
+    let e = c .before .before .before in
+    let m = e .before in
+    let k = m .before .before .before in
+    let a = begun k .args in
+    let z : ltb (256 ^ 8) (a .x .base + a .x .len) ≡ false = sym (m .past-memory .ensures) ∙ e .if1 .left in
+    simp (sym (tested k) ∙ m .before .enum-told .given .1, z, le-leb _ _ (c .before .if2 .taken), c .close .ensures)
+
+ask-requires : tie.Need-ask-requires
+ask-requires c κs =
+    let e = c .before .before .before .before in
+    let m = e .before in
+    let b = begun (m .before .before .before) in
+    let x = b .args .x in
+    (b .pre .0, omega arith, ltb-false (256 ^ 8) (x .base + x .len) (sym (m .past-memory .ensures) ∙ e .if1 .left), b .pre .2)
+
+counted-in-requires : tie.Need-counted-in-requires
+counted-in-requires c κs = search needs
 
 same-length : tie.Need-same-length
 same-length c = search needs
 
-returns-3 : tie.Need-returns-3
-returns-3 c =
+returns-4 : tie.Need-returns-4
+unfolding nextChunk
+returns-4 c =
     λ y.
-    let n = c .before .before in
-    let i = n .before .before in
-    let m = i .before in
+    let r = c .before .before .before in
+    let w = r .before .before .before in
+    let e = w .before .before in
+    let m = e .before in
     let k = m .before .before .before in
     let a = begun k .args in
-    let z : ltb (256 ^ 8) (a .x .base + a .x .len) ≡ false = sym (m .past-memory .ensures) ∙ i .if1 .left in
-    simp (sym (tested k) ∙ m .before .enum-told .given .1, z) (n .next-chunk .ensures (now (a .table)) y)
+    let z : ltb (256 ^ 8) (a .x .base + a .x .len) ≡ false = sym (m .past-memory .ensures) ∙ e .if1 .left in
+    simp (sym (tested k) ∙ m .before .enum-told .given .1, z, lt-leb _ _ (w .if2 .left), c .counted-in .ensures, r .ask .ensures .0, r .ask .ensures .1)
 
 pub begin-region-spec : {M : Type 1} → statement M
 begin-region-spec =
@@ -105,6 +127,9 @@ begin-region-spec =
     past-memory-requires
     moved-requires-2
     returns-2
-    next-chunk-requires
+    close-requires
+    returns-3
+    ask-requires
+    counted-in-requires
     same-length
-    returns-3)
+    returns-4)

@@ -18,6 +18,9 @@ Inv-loop size feed set names table₀ reply₀ out₀ s₀ f₀ turns₀ table r
 abbrev μ-loop : tie.MeasureT-loop
 μ-loop size feed set names table₀ reply₀ out₀ s₀ f₀ turns₀ table reply out s f turns = 1000000000 - turns
 
+begin-requires : tie.Need-begin-requires Inv-loop μ-loop
+begin-requires c κs = search needs
+
 loop-holds : tie.Need-loop-holds Inv-loop μ-loop
 loop-holds c = search needs
 
@@ -75,6 +78,7 @@ run-spec =
     (tie.spec
     Inv-loop
     μ-loop
+    begin-requires
     loop-holds
     add-turns
     refill-requires

@@ -67,11 +67,11 @@ module _ {names : List ℕ} {n : ℕ} {stem : List ℕ} {start size i j : ℕ} (
         whole = t .whole ∙ simp (same-step stem name j (omega arith) (omega (arith, length-name)), e);
       }
 
-abbrev Inv-loop : tie.InvT-loop
-Inv-loop names n stem found₀ i₀ start size j₀ found i j = (i ≡ i₀) × (found ≡ false) × Inside names n stem start size i j
+abbrev Inv-bytes : tie.InvT-bytes
+Inv-bytes names n stem found₀ i start size j₀ found j = (found ≡ false) × Inside names n stem start size i j
 
-abbrev μ-loop : tie.MeasureT-loop
-μ-loop names n stem found₀ i₀ start size j₀ found i j = size - j
+abbrev μ-bytes : tie.MeasureT-bytes
+μ-bytes names n stem found₀ i start size j₀ found j = size - j
 
 abbrev Inv-names : tie.InvT-names
 Inv-names names n stem found₀ i₀ found i = (i ≤ n) × (found ≡ false) × (namedFrom names n stem 0 ≡ namedFrom names n stem i)
@@ -86,36 +86,36 @@ nameless b n stem i (S.At start size) h k e = absurd (⊎-elim (λ q. omega arit
 nameless b n stem i S.Absent h k e = named-without b n stem i h (λ r. rw e refl)
 nameless b n stem i S.Missing h k e = named-without b n stem i h (λ r. rw e refl)
 
-names-holds : tie.Need-names-holds Inv-loop μ-loop Inv-names μ-names
+names-holds : tie.Need-names-holds Inv-bytes μ-bytes Inv-names μ-names
 names-holds c = (omega arith, refl, refl)
 
-slot-at-requires : tie.Need-slot-at-requires Inv-loop μ-loop Inv-names μ-names
+slot-at-requires : tie.Need-slot-at-requires Inv-bytes μ-bytes Inv-names μ-names
 slot-at-requires c κs = search needs
 
-enum-known-s : tie.Need-enum-known-s Inv-loop μ-loop Inv-names μ-names
+enum-known-s : tie.Need-enum-known-s Inv-bytes μ-bytes Inv-names μ-names
 enum-known-s c = search needs
 
-add-i : tie.Need-add-i Inv-loop μ-loop Inv-names μ-names
+add-i : tie.Need-add-i Inv-bytes μ-bytes Inv-names μ-names
 add-i c = search needs
 
-names-less : tie.Need-names-less Inv-loop μ-loop Inv-names μ-names
+names-less : tie.Need-names-less Inv-bytes μ-bytes Inv-names μ-names
 names-less c = search needs
 
-names-again : tie.Need-names-again Inv-loop μ-loop Inv-names μ-names
+names-again : tie.Need-names-again Inv-bytes μ-bytes Inv-names μ-names
 names-again c =
     let a = c .before .before .before .before .before .before .args in
     let o = c .before .before .before .names in
     let r = c .before .slot-at in
-    let e = nameless (now (a .names)) (a .n) (now (a .stem)) (o .i) (r .result) (omega arith) (c .match .keys2) (sym (r .ensures)) in
+    let e = nameless (now (a .names)) (a .n) (now (a .stem)) (o .i) (r .result) (omega arith) (c .match .keys2) (sym (r .ensures .is)) in
     (omega arith, o .inv .1, o .inv .2 ∙ e)
 
-add-i-2 : tie.Need-add-i-2 Inv-loop μ-loop Inv-names μ-names
+add-i-2 : tie.Need-add-i-2 Inv-bytes μ-bytes Inv-names μ-names
 add-i-2 c = search needs
 
-names-less-2 : tie.Need-names-less-2 Inv-loop μ-loop Inv-names μ-names
+names-less-2 : tie.Need-names-less-2 Inv-bytes μ-bytes Inv-names μ-names
 names-less-2 c = search needs
 
-names-again-2 : tie.Need-names-again-2 Inv-loop μ-loop Inv-names μ-names
+names-again-2 : tie.Need-names-again-2 Inv-bytes μ-bytes Inv-names μ-names
 names-again-2 c =
     let a = c .before .before .before .before .before .before .before .before .before .args in
     let o = c .before .before .before .before .before .before .names in
@@ -126,15 +126,14 @@ names-again-2 c =
     let e : slotOf names (o .i) ≡ S.At start size = cc in
     (omega arith, o .inv .1, o .inv .2 ∙ named-unequal names (a .n) stem (o .i) start size (omega arith) e (λ q. omega arith))
 
-loop-holds : tie.Need-loop-holds Inv-loop μ-loop Inv-names μ-names
-loop-holds c =
+bytes-holds : tie.Need-bytes-holds Inv-bytes μ-bytes Inv-names μ-names
+bytes-holds c =
     let a = c .before .before .before .before .before .before .before .before .before .args in
     let o = c .before .before .before .before .before .before .names in
     let start = c .before .before .s .given .0 .0 in
     let size = c .before .before .s .given .0 .1 .0 in
     let names : List ℕ = now (a .names) in
     let e : slotOf names (o .i) ≡ S.At start size = cc in (
-      refl,
       o .inv .1,
       record {
         below = omega arith;
@@ -145,46 +144,46 @@ loop-holds c =
       },
     )
 
-add-lower : tie.Need-add-lower Inv-loop μ-loop Inv-names μ-names
-add-lower c = omega (arith, c .before .loop .inv .2)
+add-lower : tie.Need-add-lower Inv-bytes μ-bytes Inv-names μ-names
+add-lower c = omega (arith, c .before .bytes .inv .1)
 
-shared-slice-read-lower : tie.Need-shared-slice-read-lower Inv-loop μ-loop Inv-names μ-names
-shared-slice-read-lower c = omega (arith, c .before .before .loop .inv .2)
+shared-slice-read-lower : tie.Need-shared-slice-read-lower Inv-bytes μ-bytes Inv-names μ-names
+shared-slice-read-lower c = omega (arith, c .before .before .bytes .inv .1)
 
-lower-requires : tie.Need-lower-requires Inv-loop μ-loop Inv-names μ-names
+lower-requires : tie.Need-lower-requires Inv-bytes μ-bytes Inv-names μ-names
 lower-requires c κs = search needs
 
-shared-slice-read-lower-2 : tie.Need-shared-slice-read-lower-2 Inv-loop μ-loop Inv-names μ-names
-shared-slice-read-lower-2 c = omega (arith, c .before .before .before .before .loop .inv .2)
+shared-slice-read-lower-2 : tie.Need-shared-slice-read-lower-2 Inv-bytes μ-bytes Inv-names μ-names
+shared-slice-read-lower-2 c = omega (arith, c .before .before .before .before .bytes .inv .1)
 
-lower-requires-2 : tie.Need-lower-requires-2 Inv-loop μ-loop Inv-names μ-names
+lower-requires-2 : tie.Need-lower-requires-2 Inv-bytes μ-bytes Inv-names μ-names
 lower-requires-2 c κs = search needs
 
-add-i-3 : tie.Need-add-i-3 Inv-loop μ-loop Inv-names μ-names
-add-i-3 c = search needs
-
-names-less-3 : tie.Need-names-less-3 Inv-loop μ-loop Inv-names μ-names
-names-less-3 c = omega (arith, c .before .before .before .before .before .before .loop .inv .2)
-
-names-again-3 : tie.Need-names-again-3 Inv-loop μ-loop Inv-names μ-names
-names-again-3 c =
-    let l = c .before .before .before .before .before .before .loop in
-    let t = l .inv .2 in
-    (omega arith, l .inv .1, inside-differs t (omega arith) (λ q. c .if3 .taken (cc)))
-
-add-j : tie.Need-add-j Inv-loop μ-loop Inv-names μ-names
+add-j : tie.Need-add-j Inv-bytes μ-bytes Inv-names μ-names
 add-j c = search needs
 
-loop-less : tie.Need-loop-less Inv-loop μ-loop Inv-names μ-names
-loop-less c = search needs
+bytes-less : tie.Need-bytes-less Inv-bytes μ-bytes Inv-names μ-names
+bytes-less c = search needs
 
-loop-again : tie.Need-loop-again Inv-loop μ-loop Inv-names μ-names
-loop-again c =
-    let l = c .before .before .before .before .before .before .loop in
-    let t = l .inv .2 in
-    (l .inv .0, l .inv .1, inside-next t (omega arith) (cc))
+bytes-again : tie.Need-bytes-again Inv-bytes μ-bytes Inv-names μ-names
+bytes-again c =
+    let l = c .before .before .before .before .before .before .bytes in
+    let t = l .inv .1 in
+    (l .inv .0, inside-next t (omega arith) (cc))
 
-returns : tie.Need-returns Inv-loop μ-loop Inv-names μ-names
+add-i-3 : tie.Need-add-i-3 Inv-bytes μ-bytes Inv-names μ-names
+add-i-3 c = search needs
+
+names-less-3 : tie.Need-names-less-3 Inv-bytes μ-bytes Inv-names μ-names
+names-less-3 c = omega (arith, c .before .before .before .before .before .before .bytes .inv .1)
+
+names-again-3 : tie.Need-names-again-3 Inv-bytes μ-bytes Inv-names μ-names
+names-again-3 c =
+    let l = c .before .before .before .before .before .before .bytes in
+    let t = l .inv .1 in
+    (omega arith, l .inv .0, inside-differs t (omega arith) (λ q. c .if3 .taken (cc)))
+
+returns : tie.Need-returns Inv-bytes μ-bytes Inv-names μ-names
 returns c =
     let a = c .before .before .before .before .args in
     let o = c .before .names in
@@ -192,17 +191,17 @@ returns c =
     let stem : List ℕ = now (a .stem) in
     o .inv .1 ∙ sym (named-all names (a .n) stem ∙ o .inv .2 ∙ named-done names (a .n) stem (o .i) (omega arith))
 
-returns-2 : tie.Need-returns-2 Inv-loop μ-loop Inv-names μ-names
+returns-2 : tie.Need-returns-2 Inv-bytes μ-bytes Inv-names μ-names
 returns-2 c =
     let a = c .before .before .before .before .before .before .before .before .before .before .before .args in
-    sym (named-all (now (a .names)) (a .n) (now (a .stem)) ∙ inside-all (c .before .loop .inv .2) (omega (arith, c .before .loop .inv .2)))
+    sym (named-all (now (a .names)) (a .n) (now (a .stem)) ∙ inside-all (c .before .bytes .inv .1) (omega (arith, c .before .bytes .inv .1)))
 
 pub named-spec : {M : Type 1} → statement M
 named-spec =
     tie.close
     (tie.spec
-    Inv-loop
-    μ-loop
+    Inv-bytes
+    μ-bytes
     Inv-names
     μ-names
     names-holds
@@ -214,17 +213,17 @@ named-spec =
     add-i-2
     names-less-2
     names-again-2
-    loop-holds
+    bytes-holds
     add-lower
     shared-slice-read-lower
     lower-requires
     shared-slice-read-lower-2
     lower-requires-2
+    add-j
+    bytes-less
+    bytes-again
     add-i-3
     names-less-3
     names-again-3
-    add-j
-    loop-less
-    loop-again
     returns
     returns-2)

@@ -3,7 +3,8 @@ use mathlib.Core.Path.{_≡_, refl}
 use denote.Ref.{now}
 use Rattle.packet.specs.Packet.{decodeOf}
 use Rattle.packet.specs.declared.Decoded.the-variants as D
-use Rattle.verdict.specs.Verdict.{verdictOf}
+use Rattle.base.proofs.Telling.{tells}
+use Rattle.verdict.specs.Verdict.{verdictOf, verdictTold}
 use borrow.Author.Needs.{needs}
 use Rattle.verdict.proofs.judge.Statement.{statement}
 use Rattle.verdict.proofs.judge.Tie as tie
@@ -24,13 +25,13 @@ returns : tie.Need-returns
 unfolding verdictOf
 returns c =
     let e : decodeOf (now (c .before .before .before .before .before .before .before .args .p)) ≡ D.Is (c .before .before .q .given .0 .0) = cc in
-    rw e (c .on-body .ensures)
+    tells verdictTold (rw e (c .on-body .ensures))
 
 returns-2 : tie.Need-returns-2
 unfolding verdictOf
 returns-2 c =
     let e : decodeOf (now (c .before .before .before .before .before .before .args .p)) ≡ D.Refused (c .before .why .given .0 .0) = cc in
-    rw e refl
+    tells verdictTold (rw e refl)
 
 pub judge-spec : {M : Type 1} → statement M
 judge-spec =

@@ -12,7 +12,7 @@ checked-number-requires : tie.Need-checked-number-requires
 checked-number-requires c κs = search needs
 
 returns : tie.Need-returns
-returns c = c .checked-number .ensures ∙ ap checkedNumber (c .before .check-images .ensures)
+returns c = c .checked-number .ensures ∙ ap checkedNumber (c .before .check-images .ensures .is)
 
 pub worgesli-check-images-spec : {M : Type 1} → statement M
 worgesli-check-images-spec =

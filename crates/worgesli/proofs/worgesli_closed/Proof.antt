@@ -12,12 +12,12 @@ use Rattle.worgesli.proofs.worgesli_closed.Tie as tie
 is-session-requires : tie.Need-is-session-requires
 is-session-requires c κs = search needs
 
-no-session-requires : tie.Need-no-session-requires
-no-session-requires c κs = search needs
+refused-requires : tie.Need-refused-requires
+refused-requires c κs = search needs
 
 returns : tie.Need-returns
 returns c =
-    c .no-session .ensures
+    c .refused .ensures
     ∙ closed-no (c .before .before .before .args .s) (sym (c .before .before .is-session .ensures) ∙ not-true _ (c .before .if1 .taken))
 
 session-of-requires : tie.Need-session-of-requires
@@ -32,7 +32,7 @@ raw-stepped-requires c κs = search needs
 returns-2 : tie.Need-returns-2
 returns-2 c =
     c .raw-stepped .ensures
-    ∙ ap rawStepped (c .before .closed .ensures ∙ ap (λ (s : Session). closedOf s) (c .before .before .session-of .ensures))
+    ∙ ap rawStepped (c .before .closed .ensures .is ∙ ap (λ (s : Session). closedOf s) (c .before .before .session-of .ensures))
     ∙ closed-is (c .before .before .before .before .before .args .s)
     (sym (c .before .before .before .before .is-session .ensures) ∙ not-false _ (c .before .before .before .if1 .left))
 
@@ -41,7 +41,7 @@ worgesli-closed-spec =
     tie.close
     (tie.spec
     is-session-requires
-    no-session-requires
+    refused-requires
     returns
     session-of-requires
     closed-requires

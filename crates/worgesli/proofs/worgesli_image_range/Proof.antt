@@ -12,7 +12,7 @@ raw-range-requires : tie.Need-raw-range-requires
 raw-range-requires c κs = search needs
 
 returns : tie.Need-returns
-returns c = c .raw-range .ensures ∙ ap rawRange (c .before .image-range .ensures)
+returns c = c .raw-range .ensures ∙ ap rawRange (c .before .image-range .ensures .is)
 
 pub worgesli-image-range-spec : {M : Type 1} → statement M
 worgesli-image-range-spec = tie.close (tie.spec image-range-requires raw-range-requires returns)

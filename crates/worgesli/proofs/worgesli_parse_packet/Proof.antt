@@ -12,7 +12,7 @@ raw-packet-requires : tie.Need-raw-packet-requires
 raw-packet-requires c κs = search needs
 
 returns : tie.Need-returns
-returns c = c .raw-packet .ensures ∙ ap rawPacket (c .before .sahara-parse-packet .ensures)
+returns c = c .raw-packet .ensures ∙ ap rawPacket (c .before .sahara-parse-packet .ensures .is)
 
 pub worgesli-parse-packet-spec : {M : Type 1} → statement M
 worgesli-parse-packet-spec = tie.close (tie.spec sahara-parse-packet-requires raw-packet-requires returns)

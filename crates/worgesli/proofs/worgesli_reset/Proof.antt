@@ -19,7 +19,7 @@ same-length c = search needs
 returns : tie.Need-returns
 unfolding resetRaw
 returns c =
-    let e = c .before .before .before .sahara-reset .ensures in
+    let e = c .before .before .before .sahara-reset .ensures .is in
     rw (c .built-number .ensures) (ap (λ (x : BuildOutcome). resetOutcome (builtNumber (x .built)) (x .out)) e)
 
 pub worgesli-reset-spec : {M : Type 1} → statement M

@@ -1,7 +1,9 @@
 -- `worgesli_step` meets its contract: the session's parts, lent to `step_by_phase`, are the session. Assumes nothing.
 use mathlib.Core.Path.{ap, _∙_}
 use Rattle.raw.specs.declared.RawSession.{RawSession}
-use Rattle.worgesli.specs.Worgesli.{rawOutcome, steppedAt}
+use Rattle.raw.specs.declared.RawStepped.{RawStepped}
+use Rattle.raw.specs.Raw.{steppedAt}
+use Rattle.worgesli.specs.Worgesli.{rawOutcome}
 use borrow.Author.Needs.{needs}
 use Rattle.worgesli.proofs.worgesli_step.Statement.{statement}
 use Rattle.worgesli.proofs.worgesli_step.Tie as tie
@@ -11,6 +13,9 @@ step-by-phase-requires c κs = tt
 
 raw-at-requires : tie.Need-raw-at-requires
 raw-at-requires c κs = tt
+
+stepped-at-requires : tie.Need-stepped-at-requires
+stepped-at-requires c κs = tt
 
 same-length : tie.Need-same-length
 same-length c = search needs
@@ -23,9 +28,10 @@ same-length-3 c = search needs
 
 returns : tie.Need-returns
 returns c =
-    let s = c .before .before .before .before .before .before .before .before .before .before .step-by-phase in
+    let s = c .before .before .before .before .before .before .before .before .before .before .before .step-by-phase in
     let l = s .last .1 .1 .1 .1 .1 .1 in
-    ap (λ (z : RawSession). rawOutcome (steppedAt z (s .result)) (l .0) (l .1 .0) (l .1 .1 .0)) (c .raw-at .ensures)
+    ap (λ (z : RawStepped). rawOutcome z (l .0) (l .1 .0) (l .1 .1 .0))
+    (c .stepped-at .ensures ∙ ap (λ (z : RawSession). steppedAt z (s .result)) (c .before .raw-at .ensures))
     ∙ s .ensures
 
 pub worgesli-step-spec : {M : Type 1} → statement M
@@ -34,6 +40,7 @@ worgesli-step-spec =
     (tie.spec
     step-by-phase-requires
     raw-at-requires
+    stepped-at-requires
     same-length
     same-length-2
     same-length-3

@@ -5,6 +5,8 @@ use std::ptr::{null, null_mut};
 use worgesli::{raw, Backend, Command, ImageSet, Mode, NameList, Session};
 
 const EMPTY: [u8; 8] = [0; 8];
+/// No image set and no name list: 65 slots.
+const BAD: [u8; 8] = [65, 0, 0, 0, 0, 0, 0, 0];
 
 /// A step of the session in place; and by value, in buffers of its own, which must come to the same.
 fn step(
@@ -144,9 +146,11 @@ fn numbers(rng: &mut Rng) -> raw::Session {
 fn bits_that_are_no_session() {
     let mut rng = Rng::new(2);
     let (mut none, mut some) = (0, 0);
+    let mut orders = std::collections::BTreeSet::new();
     for i in 0..40_000 {
         let side = if i % 2 == 0 { Side::Behind } else { Side::Before };
         let s = numbers(&mut rng);
+        assert_eq!(raw::wanted_in_place(&s), raw::worgesli_wanted(s), "{s:?}");
         let mut bytes = |most: u64| {
             let mut b = vec![0; rng.below(most + 1) as usize];
             rng.fill(&mut b);
@@ -154,16 +158,25 @@ fn bits_that_are_no_session() {
         };
         let (delivery, mut table, mut reply, mut out) = (bytes(300), bytes(300), bytes(150), bytes(100));
         let was = (table.to_vec(), reply.to_vec(), out.to_vec());
+        if !raw::worgesli_is_session(s) {
+            none += 1;
+            for (set, names) in [(&BAD, &BAD), (&BAD, &EMPTY), (&EMPTY, &BAD), (&EMPTY, &EMPTY)] {
+                let r = step(s, &delivery, set, names, &mut table, &mut reply, &mut out);
+                // the first of 1, 2, 3 and 18
+                let why =
+                    [(1, *set == BAD), (2, *names == BAD), (3, out.len() < 48)].into_iter().find(|w| w.1).map_or(18, |w| w.0);
+                orders.insert((why, out.len() < 48));
+                assert_eq!(r, raw::Stepped { session: s, taken: 0, first: why, second: 0, answer: 8 });
+            }
+            [&mut table, &mut reply, &mut out].into_iter().for_each(Guarded::check);
+            assert!(*table == *was.0 && *reply == *was.1 && *out == *was.2);
+            let refused = raw::Stepped { session: s, taken: 0, first: 18, second: 0, answer: 8 };
+            assert_eq!((raw::worgesli_closed(s), raw::worgesli_wanted(s)), (refused, 0));
+            continue;
+        }
         let r = step(s, &delivery, &EMPTY, &EMPTY, &mut table, &mut reply, &mut out);
         [&mut table, &mut reply, &mut out].into_iter().for_each(Guarded::check);
         let closed = raw::worgesli_closed(s);
-        if !raw::worgesli_is_session(s) {
-            none += 1;
-            let refused = raw::Stepped { session: s, taken: 0, first: 18, second: 0, answer: 8 };
-            assert_eq!((r, closed, raw::worgesli_wanted(s)), (refused, refused, 0));
-            assert!(*table == *was.0 && *reply == *was.1 && *out == *was.2);
-            continue;
-        }
         some += 1;
         assert_eq!(Session::from_raw(s).unwrap().wanted(), raw::worgesli_wanted(s));
         // the next value is a session too, and the answer stays within what was lent
@@ -189,6 +202,7 @@ fn bits_that_are_no_session() {
         assert_eq!((closed.answer, closed.first, closed.taken), (8, if s.phase == 6 { 4 } else { 23 }, 0));
     }
     assert!(none > 5000 && some > 5000, "{none} {some}");
+    assert_eq!(orders.len(), 6, "{orders:?}");
 }
 
 /// A session in a region, its counts at or next to their limits.
@@ -221,6 +235,7 @@ fn regions_in_place() {
     for i in 0..60_000 {
         let side = if i % 2 == 0 { Side::Behind } else { Side::Before };
         let s = region(&mut rng);
+        assert_eq!(raw::wanted_in_place(&s), raw::worgesli_wanted(s), "{s:?}");
         let set = if rng.chance(30) { bundle(&mut rng) } else { EMPTY.to_vec() };
         let names = if rng.chance(30) { bundle(&mut rng) } else { EMPTY.to_vec() };
         let mut delivery = vec![0; [0, 1, 511, 512, 5000][rng.below(5) as usize]];

@@ -334,7 +334,8 @@ fn empty_reads_that_time_out() {
         let memory = Memory::new(1, 1 << 40, &[Region::new("A", 0, 8192)]);
         let mut channel = NoEmptyPackets(Wire::new(Device::dump(memory), Division::Random, 1), u32::MAX);
         let mut sink = Count::default();
-        let end = sahara_run(&mut channel, Backend::Usb, Mode::MemoryDebug, None, NO_IMAGES, NO_NAMES, &mut sink, |_| (), timeouts);
+        let end =
+            sahara_run(&mut channel, Backend::Usb, Mode::MemoryDebug, None, NO_IMAGES, NO_NAMES, &mut sink, |_| (), timeouts);
         assert_eq!(end.unwrap(), Outcome::Dumped { reads: 3 });
         assert_eq!((sink.bytes, u32::MAX - channel.1), (8192, 2 * (timeouts + 1)));
     }

@@ -22,7 +22,7 @@ returns : tie.Need-returns
 returns c =
     let a = c .before .before .before .before .before .args in
     let w : wellFormed true (now (a .set)) ≡ false =
-    checked-refused (wellFormed true (now (a .set))) 1 _ (sym (c .before .before .check-images .ensures) ∙ c .enum-told2 .given .1) in
+    checked-refused (wellFormed true (now (a .set))) 1 _ (sym (c .before .before .check-images .ensures .is) ∙ c .enum-told2 .given .1) in
     simp w
 
 check-names-requires : tie.Need-check-names-requires
@@ -37,16 +37,18 @@ enum-told-4 c = c .match2 .keys2
 returns-2 : tie.Need-returns-2
 returns-2 c =
     let a = c .before .before .before .before .before .before .before .before .args in
-    let e : imagesChecked (now (a .set)) ≡ C.Good = sym (c .before .before .before .before .before .check-images .ensures) ∙ c .before .before .before .enum-told .given .1 in
+    let i = c .before .before .before in
+    let e : imagesChecked (now (a .set)) ≡ C.Good = sym (i .before .before .check-images .ensures .is) ∙ i .enum-told .given .1 in
     let w : wellFormed false (now (a .names)) ≡ false =
-    checked-refused (wellFormed false (now (a .names))) 2 _ (sym (c .before .before .check-names .ensures) ∙ c .enum-told4 .given .1) in
+    checked-refused (wellFormed false (now (a .names))) 2 _ (sym (c .before .before .check-names .ensures .is) ∙ c .enum-told4 .given .1) in
     simp (checked-good (wellFormed true (now (a .set))) 1 e, w)
 
 returns-3 : tie.Need-returns-3
 returns-3 c =
     let a = c .before .before .before .before .before .before .before .before .args in
-    let e : imagesChecked (now (a .set)) ≡ C.Good = sym (c .before .before .before .before .before .check-images .ensures) ∙ c .before .before .before .enum-told .given .1 in
-    let g : namesChecked (now (a .names)) ≡ C.Good = sym (c .before .before .check-names .ensures) ∙ c .enum-told3 .given .1 in
+    let i = c .before .before .before in
+    let e : imagesChecked (now (a .set)) ≡ C.Good = sym (i .before .before .check-images .ensures .is) ∙ i .enum-told .given .1 in
+    let g : namesChecked (now (a .names)) ≡ C.Good = sym (c .before .before .check-names .ensures .is) ∙ c .enum-told3 .given .1 in
     simp (checked-good (wellFormed true (now (a .set))) 1 e, checked-good (wellFormed false (now (a .names))) 2 g)
 
 pub formed-spec : {M : Type 1} → statement M

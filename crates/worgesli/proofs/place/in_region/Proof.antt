@@ -4,17 +4,45 @@ use borrow.Author.Needs.{needs}
 use Rattle.worgesli.proofs.place.in_region.Statement.{statement}
 use Rattle.worgesli.proofs.place.in_region.Tie as tie
 
+element-copy-out-if1 : tie.Need-element-copy-out-if1
+element-copy-out-if1 c = search needs
+
+element-copy-out-if2 : tie.Need-element-copy-out-if2
+element-copy-out-if2 c = search needs
+
+element-copy-out-is-opening : tie.Need-element-copy-out-is-opening
+element-copy-out-is-opening c = search needs
+
+element-copy-out-is-opening-2 : tie.Need-element-copy-out-is-opening-2
+element-copy-out-is-opening-2 c = search needs
+
+element-copy-out-is-opening-3 : tie.Need-element-copy-out-is-opening-3
+element-copy-out-is-opening-3 c = search needs
+
 is-opening-requires : tie.Need-is-opening-requires
-is-opening-requires c κs = tt
+is-opening-requires c κs = search needs
 
 returns : tie.Need-returns
-returns c = simp (eq-eqb _ _ (c .before .before .if1 .taken), lt-ltb _ _ (c .before .if2 .taken)) (c .is-opening .ensures)
+returns c =
+    let i = c .before .before .before .before in
+    simp (eq-eqb _ _ (i .before .before .if1 .taken), lt-ltb _ _ (i .if2 .taken)) (c .is-opening .ensures)
 
 returns-2 : tie.Need-returns-2
-returns-2 c = simp (eq-eqb _ _ (c .before .if1 .taken), le-ltb _ _ (c .if2 .left))
+returns-2 c = simp (eq-eqb _ _ (c .before .before .if1 .taken), le-ltb _ _ (c .if2 .left))
 
 returns-3 : tie.Need-returns-3
 returns-3 c = simp (ne-eqb _ _ (c .if1 .left))
 
 pub in-region-spec : {M : Type 1} → statement M
-in-region-spec = tie.close (tie.spec is-opening-requires returns returns-2 returns-3)
+in-region-spec =
+    tie.close
+    (tie.spec
+    element-copy-out-if1
+    element-copy-out-if2
+    element-copy-out-is-opening
+    element-copy-out-is-opening-2
+    element-copy-out-is-opening-3
+    is-opening-requires
+    returns
+    returns-2
+    returns-3)

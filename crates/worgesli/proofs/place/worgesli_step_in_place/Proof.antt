@@ -1,49 +1,88 @@
--- `place::worgesli_step_in_place` meets its contract: where the region repeats a step, by `turn-is`; else it is `step_by_phase`. Assumes nothing.
+-- `place::worgesli_step_in_place` meets its contract: in a region by `counts-are` and `waits-are`; else it is `step_by_phase`. Assumes nothing.
 use mathlib.Core.Path.{_≡_, refl, sym, ap, _∙_}
 use mathlib.Core.Bool.{true, false}
-use Prim.Native.Nat.{_+_, _^_}
-use native.Mathlib.Omega.{arith}
+use mathlib.Core.List.{List, [], _∷_}
+use types.Run.{miss}
+use Prim.Native.Nat.{ℕ}
 use denote.Ref.{now}
-use borrow.Author.Tests.{eqb-false, ltb-false}
+use borrow.Author.Tests.{not-false}
 use lib.ListN.{length, getD}
 use Rattle.base.proofs.Ranges.{by-then}
 use Rattle.bundle.specs.Bundle.{wellFormed}
 use Rattle.verdict.specs.declared.Opening.{Opening}
 use Rattle.session.specs.declared.Region.{Region}
-use Rattle.region_phase.proofs.Laws.{region-within}
-use Rattle.raw.specs.Raw.{openingOf}
-use Rattle.worgesli.specs.Worgesli.{rawOutcome, rawAt, steppedAt}
-use Rattle.worgesli.specs.Place.{regionAt, Placed, turnAt, repeats}
-use Rattle.worgesli.proofs.Repeats.{no, Repeats, repeats-are, turn-is}
+use Rattle.session.specs.declared.Answer.the-variants as A
+use Rattle.session.specs.declared.Counted.{Counted}
+use Rattle.region_phase.specs.declared.Advance.{Advance}
+use Rattle.region_phase.specs.declared.Advance.the-variants as D
+use Rattle.region_phase.specs.Advance.{advanced, advanceOf}
+use Rattle.region_phase.proofs.Laws.{advance-still}
+use Rattle.raw.specs.declared.RawTold.{RawTold}
+use Rattle.raw.specs.Raw.{openingOf, toldOf, steppedAt}
+use Rattle.worgesli.specs.Worgesli.{rawOutcome, rawAt, stepRaw}
+use Rattle.worgesli.specs.Place.{inRegion, regionAt, countedAt}
+use Rattle.worgesli.proofs.Repeats.{no, counts-are, waits-are}
 use borrow.Author.Needs.{needs}
 use Rattle.worgesli.proofs.place.worgesli_step_in_place.Statement.{statement}
 use Rattle.worgesli.proofs.place.worgesli_step_in_place.Tie as tie
 
--- where the function begins and the region is read, from behind the two tests
-abbrev begun : tie.Then2 → tie.Start
-begun c = c .before .before .before .before .before .before .before .before .before .before .before .before .before .before .before .before
+-- where the function begins, and the out buffer, from behind the step over the counts
+abbrev begun : tie.After-advance-region → tie.Start
+begun g =
+    g .before .before .before .before .before .before .before .before .before .before .before
+    .before .before .before .before .before .before .before .before .before .before
 
-abbrev read : tie.Then2 → tie.After-region-at
-read c = c .before .before .before .before .before .before .before .before
+abbrev after : tie.After-advance-region → List ℕ
+after g = g .advance-region .last .1 .1 .1 .1 .1 .1 .0
 
--- there the region that was read repeats a step
-repeating : (c : tie.Then2) (x : Region) → read c .region-at .result ≡ x
-    → Repeats (now (begun c .args .head)) (now (begun c .args .numbers)) x (now (begun c .args .table)) (now (begun c .args .out))
-repeating c x e =
-    let a = begun c .args in
-    repeats-are (now (a .head)) (now (a .numbers)) x (now (a .table)) (now (a .out))
-    (ap (λ (z : Region). repeats (now (a .head)) (now (a .numbers)) z (now (a .table)) (now (a .out))) (sym e)
-    ∙ sym (c .before .before .before .repeated .ensures)
-    ∙ c .before .before .if1 .taken)
+-- there the numbers are those of a session in a region, and both bundles are well formed
+in-region : (g : tie.After-advance-region) → (let a = begun g .args in inRegion (now (a .head)) (now (a .numbers)) ≡ true)
+    × ((wellFormed true (now (begun g .args .set)) ≡ true) × (wellFormed false (now (begun g .args .names)) ≡ true))
+in-region g =
+    let e = g .before .before .before .before .before .before .before .before .before .before .before in
+    let a = begun g .args in
+    let p = by-then (inRegion (now (a .head)) (now (a .numbers))) _ _ no (sym (e .before .ready .ensures) ∙ not-false _ (e .if1 .left)) in
+    (p .0, by-then (wellFormed true (now (a .set))) _ _ no (p .1))
+
+-- and what was come to is the definition's
+come-to : (g : tie.After-advance-region) (v : Advance) → g .advance-region .result ≡ v → (let a = begun g .args in
+    let n = now (a .numbers) in
+    advanced v (after g)
+    ≡ advanceOf (openingOf (getD (now (a .head)) 0 0) (getD (now (a .head)) 1 0) (getD (now (a .head)) 2 0))
+    (getD n 0 0) (getD n 1 0) (regionAt n) (length (now (a .delivery))) (now (a .table)) (now (a .out)))
+come-to g v e =
+    let a = begun g .args in
+    let n = now (a .numbers) in
+    let h = now (a .head) in
+    let u = g .before .before .before .before .before in
+    let x = u .before .before .before .before in
+    let m = length (now (a .delivery)) in
+    ap (λ (z : Advance). advanced z (after g)) (sym e)
+    ∙ g .advance-region .ensures
+    ∙ ap (λ (z : Opening). advanceOf z (getD n 0 0) (getD n 1 0) (x .region-at .result) m (now (a .table)) (now (a .out))) (u .opening-of .ensures)
+    ∙ ap (λ (z : Region). advanceOf (openingOf (getD h 0 0) (getD h 1 0) (getD h 2 0)) (getD n 0 0) (getD n 1 0) z m (now (a .table)) (now (a .out)))
+    (x .region-at .ensures)
+
+ready-requires : tie.Need-ready-requires
+ready-requires c κs = tt
+
+step-by-phase-requires : tie.Need-step-by-phase-requires
+step-by-phase-requires c κs = tt
+
+same-length : tie.Need-same-length
+same-length c = search needs
+
+same-length-2 : tie.Need-same-length-2
+same-length-2 c = search needs
+
+same-length-3 : tie.Need-same-length-3
+same-length-3 c = search needs
+
+returns : tie.Need-returns
+returns c = c .before .before .before .before .before .before .step-by-phase .ensures
 
 region-at-requires : tie.Need-region-at-requires
 region-at-requires c κs = tt
-
-repeated-requires : tie.Need-repeated-requires
-repeated-requires c κs = tt
-
-formed-requires : tie.Need-formed-requires
-formed-requires c κs = tt
 
 element-copy-out-opening-of : tie.Need-element-copy-out-opening-of
 element-copy-out-opening-of c = search needs
@@ -57,44 +96,20 @@ element-copy-out-opening-of-3 c = search needs
 opening-of-requires : tie.Need-opening-of-requires
 opening-of-requires c κs = tt
 
-turn-requires : tie.Need-turn-requires
-turn-requires c κs =
-    let i = c .before .before .before .before .before .before in
-    let a = begun i .args in
-    let x : Region = read i .region-at .result in
-    let q = repeating i x refl in
-    let l = region-within 8 (getD (now (a .numbers)) 1 0) x (now (a .table)) (q .counts) in (
-      ltb-false (length (now (a .out))) 48 (q .room),
-      q .goes,
-      l .counts,
-      λ e. l .ends (λ z. eqb-false (x .done) 0 e (omega arith)),
-      ltb-false (2 ^ 63 + 1) (getD (now (a .numbers)) 0 0) (q .reads),
-    )
+element-copy-out-k : tie.Need-element-copy-out-k
+element-copy-out-k c = search needs
 
-same-length : tie.Need-same-length
-same-length c = search needs
+element-copy-out-advance-region : tie.Need-element-copy-out-advance-region
+element-copy-out-advance-region c = search needs
 
-same-length-2 : tie.Need-same-length-2
-same-length-2 c = search needs
+advance-region-requires : tie.Need-advance-region-requires
+advance-region-requires c κs = tt
 
-returns : tie.Need-returns
-returns c =
-    let i = c .before .before .before .before .before .before .before .before .before in
-    let a = begun i .args in
-    let u : Opening = openingOf (getD (now (a .head)) 0 0) (getD (now (a .head)) 1 0) (getD (now (a .head)) 2 0) in
-    let w = by-then (wellFormed true (now (a .set))) _ _ no (sym (i .before .formed .ensures) ∙ i .if2 .taken) in
-    ap (λ (p : Placed). rawOutcome (steppedAt (rawAt (now (a .head)) (p .numbers) (now (a .window))) (p .told)) (now (a .table)) (now (a .reply)) (p .out))
-    (c .before .before .turn .ensures
-    ∙ ap (λ (z : Opening). turnAt z (now (a .numbers)) (read i .region-at .result) (now (a .delivery)) (now (a .out))) (c .before .before .before .before .before .opening-of .ensures)
-    ∙ ap (λ (z : Region). turnAt u (now (a .numbers)) z (now (a .delivery)) (now (a .out))) (read i .region-at .ensures))
-    ∙ turn-is (now (a .head)) (now (a .numbers)) (now (a .window)) (now (a .delivery)) (now (a .set)) (now (a .names)) (now (a .table)) (now (a .reply)) (now (a .out))
-    (repeating i (regionAt (now (a .numbers))) (read i .region-at .ensures)) (w .0) (w .1)
+enum-known-a : tie.Need-enum-known-a
+enum-known-a c = search needs
 
-step-by-phase-requires : tie.Need-step-by-phase-requires
-step-by-phase-requires c κs = tt
-
-same-length-3 : tie.Need-same-length-3
-same-length-3 c = search needs
+count-requires : tie.Need-count-requires
+count-requires c κs = tt
 
 same-length-4 : tie.Need-same-length-4
 same-length-4 c = search needs
@@ -103,25 +118,100 @@ same-length-5 : tie.Need-same-length-5
 same-length-5 c = search needs
 
 returns-2 : tie.Need-returns-2
-returns-2 c = c .before .before .before .before .before .before .step-by-phase .ensures
+returns-2 c =
+    let g = c .before .before .before .before .before .before .before in
+    let a = begun g .args in
+    let k : Counted = c .before .before .before .a .given .0 .0 in
+    let r = in-region g in
+    ap (λ (z : RawTold). rawOutcome (steppedAt (rawAt (now (a .head)) (c .count .last .0) (now (a .window))) z) (now (a .table)) (now (a .reply)) (after g))
+    (c .count .ensures .0)
+    ∙ ap (λ (z : List ℕ). rawOutcome (steppedAt (rawAt (now (a .head)) z (now (a .window))) (toldOf (k .taken) (k .answer)))
+    (now (a .table)) (now (a .reply)) (after g))
+    (c .count .ensures .1)
+    ∙ counts-are (now (a .head)) (now (a .numbers)) (now (a .window)) (r .0)
+    (now (a .delivery)) (now (a .set)) (now (a .names)) (now (a .table)) (now (a .reply)) (now (a .out)) (r .1 .0) (r .1 .1)
+    k (after g) (come-to g (D.To k) (c .before .before .before .a .given .1))
+
+enum-told : tie.Need-enum-told
+enum-told c = search needs
+
+told-requires : tie.Need-told-requires
+told-requires c κs = tt
+
+same-length-6 : tie.Need-same-length-6
+same-length-6 c = search needs
+
+same-length-7 : tie.Need-same-length-7
+same-length-7 c = search needs
+
+returns-3 : tie.Need-returns-3
+returns-3 c =
+    let g = c .before .before .before .before .before .before in
+    let a = begun g .args in
+    let r = in-region g in
+    ap (λ (z : RawTold). rawOutcome (steppedAt (rawAt (now (a .head)) (now (a .numbers)) (now (a .window))) z) (now (a .table)) (now (a .reply)) (after g))
+    (c .told .ensures)
+    ∙ waits-are (now (a .head)) (now (a .numbers)) (now (a .window)) (r .0)
+    (now (a .delivery)) (now (a .set)) (now (a .names)) (now (a .table)) (now (a .reply)) (now (a .out)) (r .1 .0) (r .1 .1)
+    (after g) (come-to g D.Waits (c .before .enum-told .given .1))
+
+step-by-phase-requires-2 : tie.Need-step-by-phase-requires-2
+step-by-phase-requires-2 c κs = tt
+
+same-length-8 : tie.Need-same-length-8
+same-length-8 c = search needs
+
+same-length-9 : tie.Need-same-length-9
+same-length-9 c = search needs
+
+same-length-10 : tie.Need-same-length-10
+same-length-10 c = search needs
+
+returns-4 : tie.Need-returns-4
+returns-4 c =
+    let e = c .before .before .before .before .before .before .before .before .before .before .before .before .before .before in
+    let g = e .before .before .before in
+    let a = begun g .args in
+    let n = now (a .numbers) in
+    let h = now (a .head) in
+    let v : Advance = g .advance-region .result in
+    let still : (k : Counted) → v ≡ D.To k → ⊥ = λ k q. miss (0 ∷ 1 ∷ 3 ∷ 4 ∷ []) 2 tt (rw q at (e .match .keys2)) in
+    let o : after g ≡ now (a .out) =
+    advance-still (openingOf (getD h 0 0) (getD h 1 0) (getD h 2 0)) (getD n 0 0) (regionAt n) (length (now (a .delivery))) (now (a .out)) still
+    (getD n 1 0) (now (a .table)) (sym (come-to g v refl)) in
+    c .before .before .before .before .before .before .step-by-phase2 .ensures
+    ∙ ap (stepRaw (rawAt h n (now (a .window))) (now (a .delivery)) (now (a .set)) (now (a .names)) (now (a .table)) (now (a .reply))) o
 
 pub worgesli-step-in-place-spec : {M : Type 1} → statement M
 worgesli-step-in-place-spec =
     tie.close
     (tie.spec
+    ready-requires
+    step-by-phase-requires
+    same-length
+    same-length-2
+    same-length-3
+    returns
     region-at-requires
-    repeated-requires
-    formed-requires
     element-copy-out-opening-of
     element-copy-out-opening-of-2
     element-copy-out-opening-of-3
     opening-of-requires
-    turn-requires
-    same-length
-    same-length-2
-    returns
-    step-by-phase-requires
-    same-length-3
+    element-copy-out-k
+    element-copy-out-advance-region
+    advance-region-requires
+    enum-known-a
+    count-requires
     same-length-4
     same-length-5
-    returns-2)
+    returns-2
+    enum-told
+    told-requires
+    same-length-6
+    same-length-7
+    returns-3
+    step-by-phase-requires-2
+    same-length-8
+    same-length-9
+    same-length-10
+    returns-4)

@@ -1,0 +1,38 @@
+-- Within what was lent: a step's numbers are of bytes that are there. The reports (`reportsFor` of specs/Device) take beginnings of lists, which are right for any
+-- number; a caller that reads so many bytes behind a pointer is not. Document 01, "Session": "send k (the out buffer's first k bytes), image (start in
+-- the set and length), open i, bytes k (the delivery's first k)". The law, of every step of every list, is `within` of proofs/Within.
+use Prim.Native.Nat.{ℕ, _+_, _*_, _≤_}
+use mathlib.Core.Path.{_≡_}
+use mathlib.Core.List.{List}
+use lib.ListN.{length}
+use Rattle.entry.specs.Entry.{entrySize}
+use Rattle.session.specs.declared.Answer.{Answer}
+use Rattle.session.specs.declared.Answer.the-variants as A
+use Rattle.fetch.specs.Plain.{Setting}
+use Rattle.fetch.specs.Device.{Host, Given, Lent, lent, delivered, World, made}
+
+-- lent the delivery d, the image set, the table t and the out buffer o
+abbrev pub answerWithin : Answer → List ℕ → List ℕ → List ℕ → List ℕ → Type 0
+answerWithin A.Go d set t o = Unit
+answerWithin (A.Send k) d set t o = k ≤ length o
+answerWithin (A.Image x k) d set t o = x + k ≤ length set
+answerWithin (A.Open i) d set t o = entrySize 8 * (i + 1) ≤ length t
+answerWithin (A.Bytes k) d set t o = k ≤ length d
+answerWithin A.EmptyRead d set t o = Unit
+answerWithin (A.Close i) d set t o = entrySize 8 * (i + 1) ≤ length t
+answerWithin (A.Finished how r) d set t o = Unit
+answerWithin (A.Refused why) d set t o = Unit
+
+-- what a step gave, lent the delivery d, the image set and the table, reply and out buffers t, y, o: each buffer is as long as before
+pub record Within {S : Type 0} (r : Given S) (d set t y o : List ℕ) : Type 0 where
+  pub taken : r .taken ≤ length d
+  pub answer : answerWithin (r .answer) d set t o
+  pub table : length (r .table) ≡ length t
+  pub reply : length (r .reply) ≡ length y
+  pub out : length (r .out) ≡ length o
+
+-- of a host's step
+abbrev pub StepWithin : (h : Host) (c : Setting) → World (h .State) → Lent → Type 0
+StepWithin h c w l =
+    Within (made h c w l) (delivered (l .delivery) (w .queue)) (lent (l .set) (c .set)) (lent (l .table) (w .table)) (lent (l .reply) (w .reply))
+    (lent (l .out) (w .out))

@@ -1,0 +1,99 @@
+-- Wrong hosts: what a hurried port would do, over the definitions' step. Document 01, "Lengths, modes and stems": "A hurried port would err by ..
+-- requesting again after a short delivery; .. merging two regions of one filename"; "Four questions": a host that "only says go". Demand 3 is false of
+-- each (proofs/Refuted, by a computed run): the statement tells them from the host that is right.
+use Prim.Native.Nat.{ℕ, zero, suc}
+use mathlib.Core.Bool.{Bool, true, false, _&&_}
+use mathlib.Core.List.{List}
+use lib.Dec.{ltb}
+use Rattle.base.specs.Choice.{pick}
+use Rattle.entry.specs.Entry.{entryOf, filenameOf}
+use Rattle.selection.specs.Selection.{same}
+use Rattle.session.specs.declared.Region.{Region}
+use Rattle.session.specs.declared.Phase.{Phase}
+use Rattle.session.specs.declared.Phase.the-variants as P
+use Rattle.session.specs.declared.Session.{Session}
+use Rattle.session.specs.declared.Answer.{Answer}
+use Rattle.session.specs.declared.Answer.the-variants as A
+use Rattle.session.specs.Outcome.{openedWith, inPhase, region, untouched}
+use Rattle.session.specs.Step.{stepOf}
+use Rattle.fetch.specs.Device.{Given, Host, givenOf}
+
+-- a host that does as the definitions' does, and then something else
+abbrev pub amiss : (List ℕ → Given Session → Given Session) → Host
+amiss f =
+    record {
+      State = Session;
+      fresh = openedWith;
+      step = λ s d set names t y o. f t (givenOf (stepOf s d set names t y o));
+    }
+
+-- the same, with another session or another answer
+abbrev pub inSession : Session → Given Session → Given Session
+inSession s r = record { state = s; taken = r .taken; answer = r .answer; table = r .table; reply = r .reply; out = r .out }
+
+abbrev pub answering : Answer → Given Session → Given Session
+answering a r = record { state = r .state; taken = r .taken; answer = a; table = r .table; reply = r .reply; out = r .out }
+
+-- ---- the region changed once bytes were handed out
+
+abbrev pub regionBy : (Region → Region) → Phase → Phase
+regionBy f (P.Packet h) = P.Packet h
+regionBy f (P.Response x) = P.Response x
+regionBy f (P.Switched k) = P.Switched k
+regionBy f (P.Table x) = P.Table x
+regionBy f (P.Between k i) = P.Between k i
+regionBy f (P.Region k x) = P.Region k (f x)
+regionBy f (P.Ended k) = P.Ended k
+
+abbrev pub afterBytes : (Region → Region) → Given Session → Given Session
+afterBytes f r = inSession (go (r .answer)) r
+  where
+    go : Answer → Session
+    go A.Go = r .state
+    go (A.Send k) = r .state
+    go (A.Image x k) = r .state
+    go (A.Open i) = r .state
+    go (A.Bytes k) = inPhase (r .state) (regionBy f (r .state .phase))
+    go A.EmptyRead = r .state
+    go (A.Close i) = r .state
+    go (A.Finished how n) = r .state
+    go (A.Refused why) = r .state
+
+-- requests again after a short delivery: what is outstanding is forgotten
+abbrev pub hasty : Host
+hasty = amiss (λ t r. afterBytes (λ x. region (x .entry) (x .base) (x .len) (x .done) 0 (x .due)) r)
+
+-- skips the last empty read: none is due where the region is done
+abbrev pub thrifty : Host
+thrifty = amiss (λ t r. afterBytes (λ x. region (x .entry) (x .base) (x .len) (x .done) (x .outstanding) (x .due && ltb (x .done) (x .len))) r)
+
+-- ---- merges two regions of one filename: the later one is not opened
+
+-- one of the first k entries has the filename of entry i
+unfoldable pub namedBefore : List ℕ → ℕ → ℕ → Bool
+namedBefore t zero i = false
+namedBefore t (suc k) i = pick (same (filenameOf 8 (entryOf 8 t k)) (filenameOf 8 (entryOf 8 t i))) true (namedBefore t k i)
+
+abbrev pub unlessNamed : List ℕ → Answer → Answer
+unlessNamed t A.Go = A.Go
+unlessNamed t (A.Send k) = A.Send k
+unlessNamed t (A.Image x k) = A.Image x k
+unlessNamed t (A.Open i) = pick (namedBefore t i i) A.Go (A.Open i)
+unlessNamed t (A.Bytes k) = A.Bytes k
+unlessNamed t A.EmptyRead = A.EmptyRead
+unlessNamed t (A.Close i) = A.Close i
+unlessNamed t (A.Finished how n) = A.Finished how n
+unlessNamed t (A.Refused why) = A.Refused why
+
+abbrev pub merging : Host
+merging = amiss (λ t r. answering (unlessNamed t (r .answer)) r)
+
+-- ---- only says go: it reports nothing, which is a beginning of any report, and never the whole
+
+abbrev pub idle : Host
+idle =
+    record {
+      State = Session;
+      fresh = openedWith;
+      step = λ s d set names t y o. answering A.Go (givenOf (untouched s 4 t y o));
+    }

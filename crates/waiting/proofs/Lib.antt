@@ -1,0 +1,5 @@
+pub mod Waiting
+pub mod Packet
+pub mod Held
+pub mod Window
+pub mod Example
