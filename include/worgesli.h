@@ -52,8 +52,8 @@ extern "C" {
 #define WORGESLI_REFUSED 8u    /* why: `first` */
 
 /* refusals: the numbers of the requirement, the first that applies in its order
- *  1  the image set is malformed, or has more than 64 slots or 4 GiB
- *  2  the name list is malformed, or has more than 64 names or 4 GiB
+ *  1  the image set is malformed: its length, a slot's range, or more than 64 slots
+ *  2  the name list is malformed: its length, a name's range, an absent name, or more than 64 names
  *  3  the out buffer has fewer than 48 bytes
  *  4  the session has already ended
  *  5  the device sent a packet whose length is not from 8 to 4096
@@ -69,7 +69,7 @@ extern "C" {
  * 15  the device is ready for a command, and none was given
  * 16  the device announced a response longer than the reply buffer
  * 17  the device announced a memory table longer than 65,536 bytes or the table buffer
- * 18  a lent buffer is shorter than what the session fills, or the session's numbers are none that a run gives
+ * 18  a lent buffer is shorter than what the session fills, or a number of the session is above its limit
  * 19  a region's filename has no zero byte
  * 20  a region's filename is not UTF-8 before its first zero byte
  * 21  the 20 bytes of a region's filename are not UTF-8
@@ -77,7 +77,7 @@ extern "C" {
  * 23  the channel was closed before the end
  */
 
-/* A session. Numbers that its phase does not use are 0. Keep it as it is: other bits are refused (18). */
+/* A session. Numbers that its phase does not use are 0. Keep it as it is: other bits are refused. */
 typedef struct worgesli_session {
     uint32_t mode;
     uint32_t command;
@@ -104,12 +104,13 @@ typedef struct worgesli_stepped {
 } worgesli_stepped;
 
 /* What a step in place gives: the same but the session. */
-typedef struct worgesli_told {
+typedef struct worgesli_placed {
     size_t taken;
     uint64_t first;
     uint64_t second;
     uint32_t answer;
-} worgesli_told;
+    uint64_t waits; /* in a region what worgesli_wanted would say now, else 0 */
+} worgesli_placed;
 
 /* An entry of the memory table; there 0: the table has no such entry, and all is 0. */
 typedef struct worgesli_entry {
@@ -158,7 +159,7 @@ worgesli_stepped worgesli_step(worgesli_session session,
                                uint8_t *out, size_t out_len);
 
 /* The same step of a session where it stands, and cheaper: worgesli_step_in_place(WORGESLI_PARTS(&session), delivery, ...). */
-worgesli_told worgesli_step_in_place(uint32_t head[4], uint64_t numbers[8], uint8_t window[48],
+worgesli_placed worgesli_step_in_place(uint32_t head[4], uint64_t numbers[8], uint8_t window[48],
                                      const uint8_t *delivery, size_t delivery_len,
                                      const uint8_t *set, size_t set_len,
                                      const uint8_t *names, size_t names_len,
@@ -237,11 +238,12 @@ WORGESLI_AT(worgesli_stepped, taken, 128);
 WORGESLI_AT(worgesli_stepped, first, 136);
 WORGESLI_AT(worgesli_stepped, second, 144);
 WORGESLI_AT(worgesli_stepped, answer, 152);
-WORGESLI_SIZE(worgesli_told, 32);
-WORGESLI_AT(worgesli_told, taken, 0);
-WORGESLI_AT(worgesli_told, first, 8);
-WORGESLI_AT(worgesli_told, second, 16);
-WORGESLI_AT(worgesli_told, answer, 24);
+WORGESLI_SIZE(worgesli_placed, 40);
+WORGESLI_AT(worgesli_placed, taken, 0);
+WORGESLI_AT(worgesli_placed, first, 8);
+WORGESLI_AT(worgesli_placed, second, 16);
+WORGESLI_AT(worgesli_placed, answer, 24);
+WORGESLI_AT(worgesli_placed, waits, 32);
 WORGESLI_SIZE(worgesli_entry, 72);
 WORGESLI_AT(worgesli_entry, save_pref, 0);
 WORGESLI_AT(worgesli_entry, base, 8);

@@ -65,7 +65,7 @@ static worgesli_stepped step(worgesli_session s, const uint8_t *delivery, size_t
     uint8_t t[sizeof table], y[sizeof reply], o[sizeof out];
     memcpy(t, table, sizeof t), memcpy(y, reply, sizeof y), memcpy(o, out, sizeof o);
     worgesli_session p = s;
-    worgesli_told a = worgesli_step_in_place(WORGESLI_PARTS(&p), delivery, n, none, sizeof none, none, sizeof none, t, sizeof t, y, sizeof y, o, sizeof o);
+    worgesli_placed a = worgesli_step_in_place(WORGESLI_PARTS(&p), delivery, n, none, sizeof none, none, sizeof none, t, sizeof t, y, sizeof y, o, sizeof o);
     worgesli_stepped r =
         worgesli_step(s, delivery, n, none, sizeof none, none, sizeof none, table, sizeof table, reply, sizeof reply, out, sizeof out);
     EXPECT(same(p, r.session) && a.taken == r.taken && a.first == r.first && a.second == r.second && a.answer == r.answer);
@@ -138,7 +138,7 @@ static void sip(const uint8_t *bytes, size_t n)
 static worgesli_stepped lent(worgesli_session s, const uint8_t *set, const uint8_t *names, size_t out_len)
 {
     worgesli_session p = s;
-    worgesli_told a = worgesli_step_in_place(WORGESLI_PARTS(&p), none, sizeof none, set, 8, names, 8, table, sizeof table, reply, sizeof reply, out, out_len);
+    worgesli_placed a = worgesli_step_in_place(WORGESLI_PARTS(&p), none, sizeof none, set, 8, names, 8, table, sizeof table, reply, sizeof reply, out, out_len);
     worgesli_stepped r = worgesli_step(s, none, sizeof none, set, 8, names, 8, table, sizeof table, reply, sizeof reply, out, out_len);
     EXPECT(same(p, r.session) && a.taken == r.taken && a.first == r.first && a.second == r.second && a.answer == r.answer);
     return r;
@@ -207,7 +207,7 @@ static void nulls(void)
     r = worgesli_step(s, NULL, 0, none, 8, none, 8, NULL, 0, NULL, 0, out, sizeof out);
     EXPECT(r.answer == WORGESLI_GO && r.taken == 0 && same(r.session, s));
     worgesli_session p = s;
-    worgesli_told a = worgesli_step_in_place(WORGESLI_PARTS(&p), NULL, 0, NULL, 0, NULL, 0, NULL, 0, NULL, 0, NULL, 0);
+    worgesli_placed a = worgesli_step_in_place(WORGESLI_PARTS(&p), NULL, 0, NULL, 0, NULL, 0, NULL, 0, NULL, 0, NULL, 0);
     EXPECT(a.answer == WORGESLI_REFUSED && a.first == 1 && a.second == 0 && a.taken == 0 && same(p, s));
     a = worgesli_step_in_place(WORGESLI_PARTS(&p), NULL, 0, none, 8, none, 8, NULL, 0, NULL, 0, out, sizeof out);
     EXPECT(a.answer == WORGESLI_GO && a.first == 0 && a.second == 0 && a.taken == 0 && same(p, s));

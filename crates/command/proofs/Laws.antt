@@ -8,7 +8,7 @@ use borrow.Author.Tests.{ne-eqb}
 use lib.Dec.{T, ltb, ltb→lt}
 use Rattle.base.specs.Choice.{pick}
 use Rattle.base.proofs.Ranges.{both-left, both-right}
-use Rattle.command.specs.Command.{modeNumber, commandNumber, kindNumber, modeOf, commandOf, kinds, unimplemented, kindAmong, among, classOf}
+use Rattle.command.specs.Command.{modeNumber, commandNumber, kindNumber, modeOf, commandOf, kinds, kindAmong, among, classOf}
 use Rattle.command.specs.declared.SaharaMode.{SaharaMode}
 use Rattle.command.specs.declared.SaharaMode.the-variants as M
 use Rattle.command.specs.declared.SaharaCmdModeCmd.{SaharaCmdModeCmd}

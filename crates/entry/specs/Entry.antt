@@ -1,6 +1,6 @@
 -- Entries of the memory table. Document 01, Records, "Table entry": 64 bytes: preference, base, length (8 each), description and filename (20 each).
 -- The width f of the three numbers is a parameter of each definition: 8 here, so that an entry has 64 bytes.
-use Prim.Native.Nat.{ℕ, suc, _+_, _*_}
+use Prim.Native.Nat.{ℕ, _+_, _*_}
 use mathlib.Core.Bool.{Bool, true, false}
 use mathlib.Core.List.{List}
 use lib.Dec.{leb}

@@ -1,4 +1,4 @@
--- Every row of the table holds: by computation, the definitions opened. Assumes nothing.
+-- Every example of the table holds: by computation, the definitions opened. Assumes nothing.
 use lib.Dec.{T}
 use Rattle.field.specs.Field.{le, leBytes}
 use Rattle.command.specs.Command.{modeOf, kinds, unimplemented, classOf}
@@ -12,5 +12,6 @@ use Rattle.verdict.specs.Verdict.{verdictOf}
 use Rattle.examples.specs.Rows.{rows, all}
 
 pub table : T (all rows)
-unfolding rows le leBytes modeOf kinds unimplemented classOf kindOf decodeOf slotsGood wellFormed slotOf rangeOf rows3-7 leads afterFirst goesOn before stemOf low namesFrom same member selected verdictOf
+unfolding rows le leBytes modeOf kinds unimplemented classOf kindOf decodeOf slotsGood wellFormed slotOf rangeOf rows3-7
+    leads afterFirst goesOn before stemOf low namesFrom same member selected verdictOf
 table = tt

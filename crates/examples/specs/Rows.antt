@@ -1,4 +1,4 @@
--- The computed table. Document 01, "Lengths, modes and stems": "To be proved together, as one computed table". A row has what the definitions give and what
+-- The computed table. Document 01, "Lengths, modes and stems": "To be proved together, as one computed table". An example has what the definitions give and what
 -- 01 says. The theorem is `table` of proofs/Table.antt.
 use Prim.Native.Nat.{ℕ, _+_}
 use mathlib.Core.Bool.{Bool, true, false}
@@ -23,7 +23,7 @@ use Rattle.verdict.specs.declared.Opening.{Opening}
 use Rattle.verdict.specs.declared.Verdict.{Verdict}
 use Rattle.verdict.specs.declared.Verdict.the-variants as W
 
--- what a row says: accepted, refused with a number, finished with a number, bytes of a set, a stem that matches or not
+-- what an example says: accepted, refused with a number, finished with a number, bytes of a set, a stem that matches or not
 pub data Says : Type 0 where
   ok : Says
   refused : ℕ → Says
@@ -111,31 +111,31 @@ ddrcs0 = 100 ∷ 100 ∷ 114 ∷ 99 ∷ 115 ∷ 48 ∷ []
 
 -- ---- the table
 
-pub record Row : Type 0 where
+pub record Example : Type 0 where
   pub gives : Says
   pub says : Says
 
-abbrev pub row : Says → Says → Row
-row g s = record { gives = g; says = s }
+abbrev pub example : Says → Says → Example
+example g s = record { gives = g; says = s }
 
-unfoldable pub rows : List Row
+unfoldable pub rows : List Example
 rows =
-    row (ofLength (lengthChecked 7)) (refused 5)
-    ∷ row (ofLength (lengthChecked 8)) ok
-    ∷ row (ofLength (lengthChecked 4096)) ok
-    ∷ row (ofLength (lengthChecked 4097)) (refused 5)
-    ∷ row (ofDecoded (decodeOf (hello 48 1 []))) (refused 9)
-    ∷ row (judged (hello 49 0 (0 ∷ []))) (refused 11)
-    ∷ row (judged (packet 6 16 (leBytes 4 1 ++ replicate 4 0))) (finish 1)
-    ∷ row (ofRange (rangeOf ten 0 4 6)) (given (16 + 4) 6)
-    ∷ row (ofRange (rangeOf ten 0 4 7)) (refused 13)
-    ∷ row (ofRange (rangeOf ten 0 10 0)) (given (16 + 10) 0)
-    ∷ row (ofRange (rangeOf ten 9 0 10)) (given 16 10)
-    ∷ row (ofRange (rangeOf two 9 0 1)) (refused 12)
-    ∷ row (matches (selected 8 (name ocimem) (entry OCIMEM·BIN))) (matches true)
-    ∷ row (matches (selected 8 (name ddrcs0) (entry DDRCS0))) (matches false)
+    example (ofLength (lengthChecked 7)) (refused 5)
+    ∷ example (ofLength (lengthChecked 8)) ok
+    ∷ example (ofLength (lengthChecked 4096)) ok
+    ∷ example (ofLength (lengthChecked 4097)) (refused 5)
+    ∷ example (ofDecoded (decodeOf (hello 48 1 []))) (refused 9)
+    ∷ example (judged (hello 49 0 (0 ∷ []))) (refused 11)
+    ∷ example (judged (packet 6 16 (leBytes 4 1 ++ replicate 4 0))) (finish 1)
+    ∷ example (ofRange (rangeOf ten 0 4 6)) (given (16 + 4) 6)
+    ∷ example (ofRange (rangeOf ten 0 4 7)) (refused 13)
+    ∷ example (ofRange (rangeOf ten 0 10 0)) (given (16 + 10) 0)
+    ∷ example (ofRange (rangeOf ten 9 0 10)) (given 16 10)
+    ∷ example (ofRange (rangeOf two 9 0 1)) (refused 12)
+    ∷ example (matches (selected 8 (name ocimem) (entry OCIMEM·BIN))) (matches true)
+    ∷ example (matches (selected 8 (name ddrcs0) (entry DDRCS0))) (matches false)
     ∷ []
 
-abbrev pub all : List Row → Bool
+abbrev pub all : List Example → Bool
 all [] = true
 all (r ∷ rs) = pick (same (numbers (r .gives)) (numbers (r .says))) (all rs) false

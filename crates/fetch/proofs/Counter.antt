@@ -57,9 +57,9 @@ endsAt k emptyRead l = Unit
 endsAt k (closed i) l = Unit
 endsAt k (finished how r) l = (r ≡ k) × (l ≡ [])
 
-abbrev Told : ℕ → List Report → Type 0
-Told k [] = Unit
-Told k (r ∷ l) = endsAt k r l × Told (k + one (readIn r)) l
+abbrev Tally : ℕ → List Report → Type 0
+Tally k [] = Unit
+Tally k (r ∷ l) = endsAt k r l × Tally (k + one (readIn r)) l
 
 -- whether an end is among them
 abbrev isEnd : Report → Bool
@@ -76,7 +76,7 @@ hasEnd [] = false
 hasEnd (r ∷ l) = isEnd r || hasEnd l
 
 -- where the one has an end the other is empty
-told-append : (l m : List Report) (k : ℕ) → Told k l → Told (k + readsIn l) m → (hasEnd l ≡ true → m ≡ []) → Told k (l ++ m)
+told-append : (l m : List Report) (k : ℕ) → Tally k l → Tally (k + readsIn l) m → (hasEnd l ≡ true → m ≡ []) → Tally k (l ++ m)
 unfolding readsIn
 told-append [] m k f h g = rw add-zero at h
 told-append (x ∷ l) m k f h g =
@@ -100,7 +100,7 @@ told-append (x ∷ l) m k f h g =
     later (closed i) g e = g e
     later (finished how r) g e = g refl
 
-told-bytes : (l : List ℕ) (k : ℕ) → Told k (map byte l)
+told-bytes : (l : List ℕ) (k : ℕ) → Tally k (map byte l)
 told-bytes [] k = tt
 told-bytes (b ∷ l) k = (tt, told-bytes l (k + 0))
 
@@ -108,7 +108,7 @@ no-end : (l : List ℕ) → hasEnd (map byte l) ≡ false
 no-end [] = refl
 no-end (b ∷ l) = no-end l
 
-told-end : (l m : List Report) (k how r : ℕ) → Told k (l ++ (finished how r ∷ m)) → (r ≡ k + readsIn l) × (m ≡ [])
+told-end : (l m : List Report) (k how r : ℕ) → Tally k (l ++ (finished how r ∷ m)) → (r ≡ k + readsIn l) × (m ≡ [])
 unfolding readsIn
 told-end [] m k how r f = (f .0 .0 ∙ sym (add-zero k), f .0 .1)
 told-end (x ∷ l) m k how r f =
@@ -131,15 +131,15 @@ abbrev Calm : Session → Type 0
 Calm s = calmIn (s .phase) (s .reads)
 
 -- a step from s counts what it sends
-record Counted (s : Session) (d set : List ℕ) (r : Outcome) : Type 0 where
+record Counts-sent (s : Session) (d set : List ℕ) (r : Outcome) : Type 0 where
   pub reads : r .stepped .session .reads ≡ s .reads + readsIn (toldBy r d set)
-  pub told : Told (s .reads) (toldBy r d set)
+  pub told : Tally (s .reads) (toldBy r d set)
   pub calm : Calm (r .stepped .session)
   pub ends : hasEnd (toldBy r d set) ≡ true → isEnded (r .stepped .session .phase) ≡ true
 
 module _ (s : Session) (d set : List ℕ) where
   abbrev Counts : Outcome → Type 0
-  Counts r = Counted s d set r
+  Counts r = Counts-sent s d set r
 
   -- nothing is reported
   silent : (z : Session) (n : ℕ) (a : Answer) (t y o : List ℕ) → z .reads ≡ s .reads → Calm z → toldBy (outcome (gives z n a) t y o) d set ≡ []
@@ -311,7 +311,7 @@ module _ (c : Setting) where
 
   record Turned (w : World Session) (l : Lent) : Type 0 where
     pub reads : after w l .state .reads ≡ w .state .reads + readsIn (says w l)
-    pub told : Told (w .state .reads) (says w l)
+    pub told : Tally (w .state .reads) (says w l)
     pub calm : Calm (after w l .state)
     pub ends : hasEnd (says w l) ≡ true → isEnded (after w l .state .phase) ≡ true
 
@@ -344,12 +344,12 @@ module _ (c : Setting) where
       let o = turned-over w l k h in
       rw (o .1) (all-over ls (after w l) (rw (o .0) k) (rw (o .0) h))
 
-  told-from : (ls : List Lent) (w : World Session) → Calm (w .state) → Told (w .state .reads) (reports definitions c w ls)
+  told-from : (ls : List Lent) (w : World Session) → Calm (w .state) → Tally (w .state .reads) (reports definitions c w ls)
   told-from [] w k = tt
   told-from (l ∷ ls) w k =
       let r = turned w l k in
       let rest : List Report = reports definitions c (after w l) ls in
-      told-append (says w l) rest (w .state .reads) (r .told) (subst (λ (n : ℕ). Told n rest) (r .reads) (told-from ls (after w l) (r .calm)))
+      told-append (says w l) rest (w .state .reads) (r .told) (subst (λ (n : ℕ). Tally n rest) (r .reads) (told-from ls (after w l) (r .calm)))
       (λ e. all-over ls (after w l) (r .calm) (r .ends e))
 
   module _ (ls : List Lent) where

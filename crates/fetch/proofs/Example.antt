@@ -6,7 +6,7 @@ use mathlib.Core.List.{List, [], _∷_, _++_, map}
 use Prim.Native.Nat.{ℕ, zero, suc, _+_, _*_, _%_, _≤_, _<_}
 use native.Mathlib.Omega.{arith}
 use lib.Dec.{ltb, lit≤, T}
-use lib.ListN.{length, take, getD, replicate}
+use lib.ListN.{take, getD, replicate}
 use Rattle.base.specs.Choice.{pick}
 use Rattle.field.specs.Field.{le, leBytes}
 use Rattle.utf8.specs.Utf8.{table, leads, afterFirst, goesOn}

@@ -7,8 +7,8 @@ use Prim.Native.Nat.{ℕ, _+_, _-_, _^_, _≤_, _<_, min}
 use native.Mathlib.Omega.{arith}
 use native.Mathlib.Nat.{sub-zero}
 use lib.Dec.{eqb, ltb, leb}
-use lib.ListN.{length, take, drop, length-append, length-take, length-drop, take-append-drop, drop-of-length-le}
-use lib.Seq.{take-all, take-length, take-take, take-append-le, take-append-add, drop-append-add, length-take-le, take-at}
+use lib.ListN.{length, take, drop, length-append, length-drop, take-append-drop}
+use lib.Seq.{take-length, take-take, take-append-le, take-append-add, drop-append-add, length-take-le}
 use borrow.Author.Tests.{ltb-true, ltb-false, ne-eqb, le-ltb, lt-leb, leb-true}
 use Rattle.base.proofs.Ranges.{by-test}
 use Rattle.field.proofs.Laws.{le-within}
@@ -22,6 +22,7 @@ use Rattle.verdict.specs.declared.Opening.{Opening}
 use Rattle.verdict.specs.declared.Verdict.{Verdict}
 use Rattle.verdict.specs.declared.Verdict.the-variants as W
 use Rattle.session.specs.declared.Phase.the-variants as P
+use Rattle.session.specs.declared.Answer.{Answer}
 use Rattle.session.specs.declared.Answer.the-variants as A
 use Rattle.session.specs.Outcome.{Outcome, outcome, gives, holding, reading, filling}
 use Rattle.session.specs.PacketPhase.{keep, wholeOf, sizedOf, packetOf}
@@ -47,7 +48,7 @@ use Rattle.fetch.specs.Plain.{
   reportsOf,
   Setting,
 }
-use Rattle.fetch.specs.Device.{served}
+use Rattle.fetch.specs.Device.{queued, reportsFor}
 use Rattle.field.proofs.Laws.{le-same}
 use Rattle.fetch.proofs.Ghost.{Ghost}
 use Rattle.build.proofs.Laws.{take-front as take-sent}
@@ -206,69 +207,49 @@ module _ (c : Setting) (dbg : Debug) (h : ℕ) (w : Ghost) (g : GoodPacket c dbg
     abbrev after-it : Heard
     after-it = hear u (c .set) (length (w .table)) (length (w .reply)) (length rest) rest
 
-    -- a packet after which another is to come: what it says is reported
     module _ (l : k ≤ length d) where
+      -- a packet after which another is to come: nothing is queued for it, and what it says is reported
+      onward : (a : Answer) (o : List ℕ) → 48 ≤ length o → drop k (w .queue) ++ queued (c .mem) a o ≡ rest → heard .ending ≡ after-it .ending
+          → duePacket c dbg w ≡ reportsFor a d (c .set) o ++ reportsOf u (c .mem) (c .names) after-it
+          → Keeps (outcome (gives (holding (w .session) win (P.Packet 0)) k a) (w .table) (w .reply) o)
+      onward a o r z e t =
+          record {
+            good =
+                record {
+                  out = r;
+                  reads = g .reads;
+                  size = window-length k;
+                  count = refl;
+                  same = refl;
+                  part = λ i. absurd (omega arith);
+                  ends = rw z (sym e ∙ g .ends);
+                };
+            told = rw z t;
+            fell = rw (z, ← queue-rest, length-drop) (omega (arith, no-longer d (w .queue) v, short));
+          }
+
       reply : (q : Request) → verdict ≡ W.Reply q
           → Keeps (outcome (gives (holding (w .session) win (P.Packet 0)) k (A.Send (sizeOf q))) (w .table) (w .reply) (front q (w .out)))
       reply q e =
           let f : heard ≡ say (sent (bytesOf q)) after-it = first .cut ∙ rw e refl in
           let y : asks q ≡ false = rw e at (sane u (c .set) (length (w .table)) (length (w .reply)) (take size s)) in
           let st : take (sizeOf q) (front q (w .out)) ≡ bytesOf q = take-sent q (w .out) in
-          let z : drop k (w .queue) ++ served (c .mem) (take (sizeOf q) (front q (w .out))) ≡ rest =
-          rw (st, unserved (c .mem) (bytesOf q) (asks-read q ∙ y), append-nil) queue-rest in
-          record {
-            good =
-                record {
-                  out = rw (length-out q (w .out) (g .out)) (g .out);
-                  reads = g .reads;
-                  size = window-length k;
-                  count = refl;
-                  same = refl;
-                  part = λ i. absurd (omega arith);
-                  ends = rw z (ap (λ (o : Heard). o .ending) (sym f) ∙ g .ends);
-                };
-            told = rw (f, z, st) (reports-say u (c .mem) (c .names) (sent (bytesOf q)) after-it);
-            fell = rw (z, ← queue-rest, length-drop) (omega (arith, no-longer d (w .queue) v, short));
-          }
+          onward (A.Send (sizeOf q)) (front q (w .out)) (rw (length-out q (w .out) (g .out)) (g .out))
+          (rw (st, unserved (c .mem) (bytesOf q) (asks-read q ∙ y), append-nil) queue-rest)
+          (ap (λ (o : Heard). o .ending) f)
+          (rw (f, st) (reports-say u (c .mem) (c .names) (sent (bytesOf q)) after-it))
 
       show : (x m : ℕ) → verdict ≡ W.Image x m
           → Keeps (outcome (gives (holding (w .session) win (P.Packet 0)) k (A.Image x m)) (w .table) (w .reply) (w .out))
       show x m e =
           let f : heard ≡ say (image (take m (drop x (c .set)))) after-it = first .cut ∙ rw e refl in
-          let z : drop k (w .queue) ++ [] ≡ rest = rw append-nil queue-rest in
-          record {
-            good =
-                record {
-                  out = g .out;
-                  reads = g .reads;
-                  size = window-length k;
-                  count = refl;
-                  same = refl;
-                  part = λ i. absurd (omega arith);
-                  ends = rw z (ap (λ (o : Heard). o .ending) (sym f) ∙ g .ends);
-                };
-            told = rw (f, z) (reports-say u (c .mem) (c .names) (image (take m (drop x (c .set)))) after-it);
-            fell = rw (z, ← queue-rest, length-drop) (omega (arith, no-longer d (w .queue) v, short));
-          }
+          onward (A.Image x m) (w .out) (g .out) (rw append-nil queue-rest) (ap (λ (o : Heard). o .ending) f)
+          (rw f (reports-say u (c .mem) (c .names) (image (take m (drop x (c .set)))) after-it))
 
       pass : verdict ≡ W.Pass → Keeps (outcome (gives (holding (w .session) win (P.Packet 0)) k A.Go) (w .table) (w .reply) (w .out))
       pass e =
           let f : heard ≡ after-it = first .cut ∙ rw e refl in
-          let z : drop k (w .queue) ++ [] ≡ rest = rw append-nil queue-rest in
-          record {
-            good =
-                record {
-                  out = g .out;
-                  reads = g .reads;
-                  size = window-length k;
-                  count = refl;
-                  same = refl;
-                  part = λ i. absurd (omega arith);
-                  ends = rw z (ap (λ (o : Heard). o .ending) (sym f) ∙ g .ends);
-                };
-            told = rw (f, z) refl;
-            fell = rw (z, ← queue-rest, length-drop) (omega (arith, no-longer d (w .queue) v, short));
-          }
+          onward A.Go (w .out) (g .out) (rw append-nil queue-rest) (ap (λ (o : Heard). o .ending) f) (rw f refl)
 
       -- it is the memory debug that the plain host comes to
       debugged : (b m : ℕ) → verdict ≡ W.Debug b m → (b ≡ dbg .address) × (m ≡ dbg .size) × (rest ≡ [])
@@ -293,7 +274,9 @@ module _ (c : Setting) (dbg : Debug) (h : ℕ) (w : Ghost) (g : GoodPacket c dbg
                   fits = y;
                   filled = omega arith;
                   table = refl;
-                  queue = rw (queue-rest, debugged (dbg .address) (dbg .size) e .2, st) (served-read (c .mem) (dbg .address) (dbg .size) (omega arith) (omega arith));
+                  queue =
+                      rw (queue-rest, debugged (dbg .address) (dbg .size) e .2, st)
+                      (served-read (c .mem) (dbg .address) (dbg .size) (omega arith) (omega arith));
                   reads = refl;
                 };
             told = rw (f, st, sub-zero) (reports-debug u (c .mem) (c .names) dbg rest);

@@ -1,19 +1,17 @@
 -- Lists of steps of any host: own steps with deliveries of one size, and lists whose fairness is a computed test. By induction on the list.
 -- Assumes nothing.
-use mathlib.Core.Path.{_≡_, refl, sym}
+use mathlib.Core.Path.{_≡_, refl}
 use mathlib.Core.Logic.{inl, inr}
 use mathlib.Core.Bool.{Bool, true, false}
 use mathlib.Core.List.{List, [], _∷_}
-use Prim.Native.Nat.{ℕ, zero, suc, _+_, _≤_, _<_}
+use Prim.Native.Nat.{ℕ, zero, suc, _≤_}
 use native.Mathlib.Omega.{arith}
 use lib.Dec.{leb, leb→le, T}
-use lib.ListN.{length}
 use Rattle.base.specs.Choice.{pick}
 use Rattle.base.proofs.Ranges.{both-left, both-right}
 use Rattle.fetch.specs.Plain.{Setting}
 use Rattle.fetch.specs.Device.{Host, own, Delivery, first, another, Lent, allOwn, aside, Delivered, World, made, next, Fair}
 use Rattle.fetch.specs.Claim.{Run, owns}
-use Rattle.base.proofs.Tests.{holds}
 
 -- all the run's own, with a delivery
 abbrev pub lending : Delivery → Lent

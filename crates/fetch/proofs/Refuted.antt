@@ -2,7 +2,7 @@
 -- beginning of the plain host's, or not the whole of it after enough steps. And the count of steps is tight: one own step fewer is not enough.
 -- Assumes nothing.
 use mathlib.Core.Path.{_≡_, refl, sym, ap, _∙_}
-use mathlib.Core.Bool.{Bool, true, false}
+use mathlib.Core.Bool.{Bool, false}
 use mathlib.Core.List.{List, [], _∷_, _++_}
 use Prim.Native.Nat.{ℕ, zero, suc, _+_, _-_, _/_, _%_, _^_, _≤_, _<_}
 use native.Mathlib.Omega.{arith}
@@ -146,7 +146,7 @@ refuted h c dbg ls n i j a x d =
 -- ---- requests again after a short delivery: a region of 2 bytes, of which the first delivery has 1. The plain host goes on with the second byte (3), this
 -- host sends a packet (0)
 
-abbrev two : Setting
+abbrev pub two : Setting
 two = small U.Serial (entryBytes 1 1000 2 name)
 
 abbrev byOne : List Lent
@@ -158,6 +158,9 @@ unfolding kindAt allFair plain hosted hear reportsOf dump regions chunks chosen 
     selected before sound has goesOn leads afterFirst table bytesAt fields le leBytes
 hasty-apart =
     record { premises = tested two (debug 0 64) refl (lit≤ tt) tt; fair = tt; far = lit≤ tt; planned = refl; played = refl }
+
+pub two-premises : Premises two (debug 0 64)
+two-premises = hasty-apart .premises
 
 pub hasty-refuted : Demand hasty → ⊥
 hasty-refuted = refuted hasty two (debug 0 64) byOne 4 3 0 hasty-apart (λ e. omega (arith, e))
@@ -200,40 +203,40 @@ thrifty-refuted = refuted thrifty block (debug 0 64) whole 515 4 5 thrifty-apart
 
 -- ---- an empty table, one byte a delivery: 24 steps for the memory debug, one for the table without a byte, one for the end
 
-abbrev pub bare : Setting
-bare = small U.Serial []
+abbrev pub emptyTable : Setting
+emptyTable = small U.Serial []
 
-pub record Counted (k : ℕ) : Type 0 where
-  pub premises : Premises bare (debug 0 0)
-  pub enough : enough bare (debug 0 0) ≡ k
+pub record Tight (k : ℕ) : Type 0 where
+  pub premises : Premises emptyTable (debug 0 0)
+  pub enough : enough emptyTable (debug 0 0) ≡ k
   -- the plain host sends the memory read and finishes
-  pub planned : plain bare ≡ sent (bytesOf (Q.MemRead64 0 0)) ∷ finished 3 1 ∷ []
+  pub planned : plain emptyTable ≡ sent (bytesOf (Q.MemRead64 0 0)) ∷ finished 3 1 ∷ []
   -- the host of the definitions: the whole after so many steps, and not before
-  pub before : reports definitions bare (start definitions bare) (drive 1 (k - 1)) ≡ sent (bytesOf (Q.MemRead64 0 0)) ∷ []
-  pub all : reports definitions bare (start definitions bare) (drive 1 k) ≡ plain bare
+  pub before : reports definitions emptyTable (start definitions emptyTable) (drive 1 (k - 1)) ≡ sent (bytesOf (Q.MemRead64 0 0)) ∷ []
+  pub all : reports definitions emptyTable (start definitions emptyTable) (drive 1 k) ≡ plain emptyTable
 
 -- the count of 01 cannot be less
-pub tight : Counted 26
+pub tight : Tight 26
 unfolding enough regionBytes regionReads drive plain hosted hear reportsOf dump regions chosen stepOf limitOf packetOf sizedOf wholeOf tableOf betweenOf
     chunkOf nextOf served wellFormed slotsGood verdictOf decodeOf classOf kinds kindOf bytesOf bytesAt fields le leBytes
-tight = record { premises = tested bare (debug 0 0) refl (lit≤ tt) tt; enough = refl; planned = refl; before = refl; all = refl }
+tight = record { premises = tested emptyTable (debug 0 0) refl (lit≤ tt) tt; enough = refl; planned = refl; before = refl; all = refl }
 
-pub one-fewer : reports definitions bare (start definitions bare) (drive 1 25) ≡ plain bare → ⊥
+pub one-fewer : reports definitions emptyTable (start definitions emptyTable) (drive 1 25) ≡ plain emptyTable → ⊥
 one-fewer e =
     let z : _≡_ {A = ℕ} 1 2 = ap length (sym (tight .before) ∙ e ∙ tight .planned) in
     omega arith
 
 -- ---- only says go: its report is empty after any list, and the plain host's is not
 
-idle-silent : (ls : List Lent) (w : World Session) → reports idle bare w ls ≡ []
+idle-silent : (ls : List Lent) (w : World Session) → reports idle emptyTable w ls ≡ []
 idle-silent [] w = refl
-idle-silent (l ∷ ls) w = idle-silent ls (next idle bare w l)
+idle-silent (l ∷ ls) w = idle-silent ls (next idle emptyTable w l)
 
 pub idle-refuted : Demand idle → ⊥
 idle-refuted d =
-    let w : World Session = start idle bare in
+    let w : World Session = start idle emptyTable in
     let e =
-    d bare (debug 0 0) (tight .premises) (drive 1 26) (drive-fair idle bare 1 26 w (lit≤ tt)) .whole
-    (omega (arith, tight .enough, drive-owns idle bare 1 26 w)) in
+    d emptyTable (debug 0 0) (tight .premises) (drive 1 26) (drive-fair idle emptyTable 1 26 w (lit≤ tt)) .whole
+    (omega (arith, tight .enough, drive-owns idle emptyTable 1 26 w)) in
     let z : _≡_ {A = ℕ} 0 2 = ap length (sym (idle-silent (drive 1 26) w) ∙ e ∙ tight .planned) in
     omega arith

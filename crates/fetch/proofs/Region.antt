@@ -226,15 +226,18 @@ module _ (c : Setting) (dbg : Debug) (k : ℕ) (x : Region) (w : Ghost) (g : Goo
     abbrev size : ℕ
     size = min (chunkOf u) (x .len - x .done)
 
+    -- the memory read of it
+    abbrev p : Request
+    p = Q.MemRead64 (x .base + x .done) size
+
     -- the next chunk is asked for
     ask : x .due ≡ false → x .outstanding ≡ 0 → x .done < x .len
         → Keeps
         (outcome
-        (gives
-        (reading (w .session) (suc (w .session .reads)) (P.Region k (region (x .entry) (x .base) (x .len) (x .done) size false))) 0 (A.Send (sizeOf (Q.MemRead64 (x .base + x .done) size))))
-        (w .table) (w .reply) (front (Q.MemRead64 (x .base + x .done) size) (w .out)))
+        (gives (reading (w .session) (suc (w .session .reads)) (P.Region k (region (x .entry) (x .base) (x .len) (x .done) size false))) 0
+        (A.Send (sizeOf p)))
+        (w .table) (w .reply) (front p (w .out)))
     ask e z h =
-        let p : Request = Q.MemRead64 (x .base + x .done) size in
         let st : take (sizeOf p) (front p (w .out)) ≡ bytesOf p = take-front p (w .out) in
         let q : w .queue ≡ [] = g .queue ∙ rw z (no-bytes (c .mem) _) in
         let m : x .done % 512 ≡ 0 = omega (arith, g .cut (omega arith)) in

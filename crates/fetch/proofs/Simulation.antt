@@ -1,15 +1,13 @@
 -- From one host to another: where two hosts' states stay related and their steps give the same but for the state, demand 3 goes over from the one to the
--- other, and so does what holds of each step's numbers. By the laws of related machines. Assumes nothing.
+-- other. By the laws of related machines. Assumes nothing.
 use mathlib.Core.Path.{_≡_, refl, sym, ap, _∙_}
 use mathlib.Core.List.{List, _++_}
 use Prim.Native.Nat.{ℕ}
 use Rattle.verdict.specs.declared.Opening.{Opening}
-use Rattle.steps.specs.Steps.{FairRun}
 use Rattle.steps.proofs.Steps.{outs-related, counted-related, fair-related}
 use Rattle.fetch.specs.Plain.{Report, Debug, Setting}
 use Rattle.fetch.specs.Device.{Host, Given, Lent, lent, delivered, allOwn, World, start, made, next, reported, Fair}
 use Rattle.fetch.specs.Claim.{Run, reports, owns, Fetched, Demand}
-use Rattle.fetch.specs.Within.{StepWithin}
 
 -- what two steps gave: the same, the states being related
 pub record Alike {S S′ : Type 0} (R : S → S′ → Type 0) (r : Given S) (r′ : Given S′) : Type 0 where
@@ -69,23 +67,6 @@ module _ (h k : Host) (R : h .State → k .State → Type 0) (fresh : (u : Openi
 
     same-fair : Run k c (start k c) ls → Run h c (start h c) ls
     same-fair f = fair-related (next h c) (next k c) Both both-kept (Fair h c) (Fair k c) both-fair ls (start h c) (start k c) both-start f
-
-    -- what the first host's steps keep within, the second's do
-    both-within : (v : World (k .State)) (w : World (h .State)) (l : Lent) → Both w v → StepWithin h c w l → StepWithin k c v l
-    both-within v w l b x =
-        let a = both-made w v l b in
-        record {
-          taken = rw (sym (a .taken), sym (b .queue)) (x .taken);
-          answer = rw (sym (a .answer), sym (b .queue), sym (b .table), sym (b .out)) (x .answer);
-          table = rw (sym (a .table), sym (b .table)) (x .table);
-          reply = rw (sym (a .reply), sym (b .reply)) (x .reply);
-          out = rw (sym (a .out), sym (b .out)) (x .out);
-        }
-
-    pub within-carried : FairRun (next h c) (StepWithin h c) (start h c) ls → FairRun (next k c) (StepWithin k c) (start k c) ls
-    within-carried f =
-        fair-related (next k c) (next h c) (λ v w. Both w v) (λ v w l b. both-kept w v l b) (StepWithin k c) (StepWithin h c) both-within ls
-        (start k c) (start h c) both-start f
 
     pub fetched-carried : (dbg : Debug) → Fetched h c dbg ls → Fetched k c dbg ls
     fetched-carried dbg g =

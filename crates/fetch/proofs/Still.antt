@@ -2,7 +2,7 @@
 -- and nothing is taken, whatever was lent. By the tests of each phase. Assumes nothing.
 use mathlib.Core.Path.{_≡_, refl}
 use mathlib.Core.Bool.{true, false, not}
-use mathlib.Core.List.{List, []}
+use mathlib.Core.List.{List}
 use Prim.Native.Nat.{ℕ, _+_, _-_, _^_, min}
 use lib.Dec.{eqb, ltb, leb, T}
 use lib.ListN.{length, take}

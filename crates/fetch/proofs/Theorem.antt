@@ -2,14 +2,14 @@
 -- leaves the world as it was, and so, by the laws of lists of steps, the reports are a beginning of the plain host's, and the whole once the own steps
 -- number at least `enough`. Assumes nothing.
 use mathlib.Core.Path.{_≡_, refl, sym, ap, subst, _∙_}
-use mathlib.Core.Logic.{_⊎_, inl, inr}
+use mathlib.Core.Logic.{inl, inr}
 use mathlib.Core.Bool.{Bool, true, false, not, _&&_, _||_}
 use mathlib.Core.List.{List, [], _++_, append-nil}
-use Prim.Native.Nat.{ℕ, _+_, _-_, _*_, _^_, _≤_, _<_}
+use Prim.Native.Nat.{ℕ, _+_, _-_, _*_, _^_, _≤_}
 use native.Mathlib.Omega.{arith}
 use native.Mathlib.Nat.{sub-zero}
 use lib.Dec.{ltb, T}
-use lib.ListN.{length, take}
+use lib.ListN.{length}
 use borrow.Author.Tests.{le-ltb, ltb-false, not-false}
 use Rattle.base.specs.Choice.{pick}
 use Rattle.base.proofs.Ranges.{by-test}
@@ -47,7 +47,7 @@ use Rattle.fetch.specs.Device.{
   reported,
   Fair,
 }
-use Rattle.fetch.specs.Claim.{Run, reports, owns, regionBytes, enough, Premises, Fetched, Demand}
+use Rattle.fetch.specs.Claim.{Run, reports, owns, regionBytes, enough, Premises, Demand}
 use Rattle.fetch.specs.Meaning.{readsIn, Meant}
 use Rattle.base.proofs.Tests.{and-true, holds, held}
 use Rattle.fetch.proofs.Device.{Came, first-came}
@@ -60,7 +60,7 @@ use Rattle.fetch.proofs.Table
 use Rattle.fetch.proofs.Between
 use Rattle.fetch.proofs.Between.{Safe}
 use Rattle.fetch.proofs.Region
-use Rattle.fetch.proofs.Still.{Quiet, packet-quiet, table-quiet, between-quiet, region-quiet, Still, step-still}
+use Rattle.fetch.proofs.Still.{packet-quiet, table-quiet, between-quiet, region-quiet, Still, step-still}
 
 -- the run's own things are well formed, the table ends at or below 2^64, the selected regions can be dumped
 record Ready (c : Setting) (dbg : Debug) : Type 0 where

@@ -124,7 +124,7 @@ reportsFor (A.Close i) d set o = closed i ∷ []
 reportsFor (A.Finished how r) d set o = finished how r ∷ []
 reportsFor (A.Refused why) d set o = []
 
--- "A step refused with 1, 2, 3, 4 or 18 may be lent anything, any delivery included."
+-- "A step refused with 1, 2, 3, 4 or 18 may be lent anything, any delivery included.": the refusals that touch nothing
 abbrev pub aside : Answer → Bool
 aside A.Go = false
 aside (A.Send k) = false
@@ -136,7 +136,8 @@ aside (A.Close i) = false
 aside (A.Finished how r) = false
 aside (A.Refused why) = eqb why 1 || eqb why 2 || eqb why 3 || eqb why 4 || eqb why 18
 
--- "A delivery is a non-empty beginning of the queue, empty only when nothing is queued."
+-- "A delivery is a non-empty beginning of the queue, empty only when nothing is queued.": of a queue with bytes at least one, of an empty one any k; where
+-- k passes the queue's end, all of it is delivered
 abbrev pub Delivered : Delivery → List ℕ → Type 0
 Delivered (first k) q = 0 < length q → 0 < k
 Delivered (another d) q = ⊥
@@ -173,6 +174,6 @@ module _ (h : Host) (c : Setting) where
   abbrev pub reported : World (h .State) → Lent → List Report
   reported w l = reportsFor (made w l .answer) (delivered (l .delivery) (w .queue)) (lent (l .set) (c .set)) (made w l .out)
 
-  -- lent the run's own things and a delivery of the queue's; or refused so
+  -- lent the run's own things *and* (×) a delivery of the queue's; *or* (⊎) refused so. (T b: the test b holds)
   abbrev pub Fair : World (h .State) → Lent → Type 0
   Fair w l = (T (allOwn l) × Delivered (l .delivery) (w .queue)) ⊎ T (aside (made w l .answer))

@@ -67,7 +67,7 @@ stop e = record { said = []; ending = e }
 abbrev pub say : Report → Heard → Heard
 say r h = record { said = r ∷ h .said; ending = h .ending }
 
--- by a packet's verdict; rest is what the bytes s behind the packet give
+-- by a packet's verdict; rest is what the bytes s behind the packet give. Finished with 0: no memory read is sent before a memory debug
 abbrev pub after : List ℕ → List ℕ → Heard → Verdict → Heard
 after set s rest (W.Reply q) = say (sent (bytesOf q)) rest
 after set s rest (W.Image x k) = say (image (take k (drop x set))) rest
@@ -145,6 +145,7 @@ tableIn mem dbg = bytesAt mem (dbg .address) (dbg .size)
 abbrev pub selectedIn : ℕ → (ℕ → ℕ) → List ℕ → Debug → List ℕ
 selectedIn f mem names dbg = chosen f names (tableIn mem dbg) (dbg .size / entrySize f) 0
 
+-- what stands after the memory debug is not looked at (the claim's premises have none)
 unfoldable pub dump : Opening → (ℕ → ℕ) → List ℕ → Ending → List Report
 dump u mem names Stopped = []
 dump u mem names (Debugged dbg s) =

@@ -1,11 +1,14 @@
--- Within what was lent: a step's numbers are of bytes that are there. The reports (`reportsFor` of specs/Device) take beginnings of lists, which are right for any
--- number; a caller that reads so many bytes behind a pointer is not. Document 01, "Session": "send k (the out buffer's first k bytes), image (start in
--- the set and length), open i, bytes k (the delivery's first k)". The law, of every step of every list, is `within` of proofs/Within.
+-- Within what was lent: a step's numbers are of bytes that are there. The reports (`reportsFor` of specs/Device) take beginnings of lists, which are right
+-- for any number; a caller that reads so many bytes behind a pointer is not. Document 01, "Session": "send k (the out buffer's first k bytes), image (start
+-- in the set and length), open i, bytes k (the delivery's first k)". The law, of every step of every list, is `within` of proofs/Within, and `reply-within`
+-- beside it.
 use Prim.Native.Nat.{ℕ, _+_, _*_, _≤_}
 use mathlib.Core.Path.{_≡_}
 use mathlib.Core.List.{List}
 use lib.ListN.{length}
 use Rattle.entry.specs.Entry.{entrySize}
+use Rattle.session.specs.declared.Phase.{Phase}
+use Rattle.session.specs.declared.Phase.the-variants as P
 use Rattle.session.specs.declared.Answer.{Answer}
 use Rattle.session.specs.declared.Answer.the-variants as A
 use Rattle.fetch.specs.Plain.{Setting}
@@ -36,3 +39,13 @@ abbrev pub StepWithin : (h : Host) (c : Setting) → World (h .State) → Lent �
 StepWithin h c w l =
     Within (made h c w l) (delivered (l .delivery) (w .queue)) (lent (l .set) (c .set)) (lent (l .table) (w .table)) (lent (l .reply) (w .reply))
     (lent (l .out) (w .out))
+
+-- finished (4) leaves the reply's length in the session: so many bytes of the reply buffer y that was lent then
+abbrev pub replyWithin : Phase → List ℕ → Type 0
+replyWithin (P.Packet h) y = Unit
+replyWithin (P.Response x) y = Unit
+replyWithin (P.Switched k) y = Unit
+replyWithin (P.Table x) y = Unit
+replyWithin (P.Between k i) y = Unit
+replyWithin (P.Region k x) y = Unit
+replyWithin (P.Ended k) y = k ≤ length y

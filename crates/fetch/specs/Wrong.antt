@@ -7,7 +7,7 @@ use mathlib.Core.List.{List}
 use lib.Dec.{ltb}
 use Rattle.base.specs.Choice.{pick}
 use Rattle.entry.specs.Entry.{entryOf, filenameOf}
-use Rattle.selection.specs.Selection.{same}
+use Rattle.selection.specs.Selection.{same, selectedAt}
 use Rattle.session.specs.declared.Region.{Region}
 use Rattle.session.specs.declared.Phase.{Phase}
 use Rattle.session.specs.declared.Phase.the-variants as P
@@ -18,13 +18,14 @@ use Rattle.session.specs.Outcome.{openedWith, inPhase, region, untouched}
 use Rattle.session.specs.Step.{stepOf}
 use Rattle.fetch.specs.Device.{Given, Host, givenOf}
 
--- a host that does as the definitions' does, and then something else
-abbrev pub amiss : (List ℕ → Given Session → Given Session) → Host
+-- a host that does as the definitions' does, and then something else: f is given names and table as they were lent, and what the
+-- right step gave
+abbrev pub amiss : (List ℕ → List ℕ → Given Session → Given Session) → Host
 amiss f =
     record {
       State = Session;
       fresh = openedWith;
-      step = λ s d set names t y o. f t (givenOf (stepOf s d set names t y o));
+      step = λ s d set names t y o. f names t (givenOf (stepOf s d set names t y o));
     }
 
 -- the same, with another session or another answer
@@ -61,34 +62,35 @@ afterBytes f r = inSession (go (r .answer)) r
 
 -- requests again after a short delivery: what is outstanding is forgotten
 abbrev pub hasty : Host
-hasty = amiss (λ t r. afterBytes (λ x. region (x .entry) (x .base) (x .len) (x .done) 0 (x .due)) r)
+hasty = amiss (λ names t r. afterBytes (λ x. region (x .entry) (x .base) (x .len) (x .done) 0 (x .due)) r)
 
 -- skips the last empty read: none is due where the region is done
 abbrev pub thrifty : Host
-thrifty = amiss (λ t r. afterBytes (λ x. region (x .entry) (x .base) (x .len) (x .done) (x .outstanding) (x .due && ltb (x .done) (x .len))) r)
+thrifty = amiss (λ names t r. afterBytes (λ x. region (x .entry) (x .base) (x .len) (x .done) (x .outstanding) (x .due && ltb (x .done) (x .len))) r)
 
--- ---- merges two regions of one filename: the later one is not opened
+-- ---- merges two regions of one filename: the later one is not opened, and its bytes come as if they were of the one before
 
--- one of the first k entries has the filename of entry i
-unfoldable pub namedBefore : List ℕ → ℕ → ℕ → Bool
-namedBefore t zero i = false
-namedBefore t (suc k) i = pick (same (filenameOf 8 (entryOf 8 t k)) (filenameOf 8 (entryOf 8 t i))) true (namedBefore t k i)
+-- one of the first k entries is selected and has the filename of entry i
+unfoldable pub namedBefore : List ℕ → List ℕ → ℕ → ℕ → Bool
+namedBefore names t zero i = false
+namedBefore names t (suc k) i =
+    pick (selectedAt 8 names t k && same (filenameOf 8 (entryOf 8 t k)) (filenameOf 8 (entryOf 8 t i))) true (namedBefore names t k i)
 
-abbrev pub unlessNamed : List ℕ → Answer → Answer
-unlessNamed t A.Go = A.Go
-unlessNamed t (A.Send k) = A.Send k
-unlessNamed t (A.Image x k) = A.Image x k
-unlessNamed t (A.Open i) = pick (namedBefore t i i) A.Go (A.Open i)
-unlessNamed t (A.Bytes k) = A.Bytes k
-unlessNamed t A.EmptyRead = A.EmptyRead
-unlessNamed t (A.Close i) = A.Close i
-unlessNamed t (A.Finished how n) = A.Finished how n
-unlessNamed t (A.Refused why) = A.Refused why
+abbrev pub unlessNamed : List ℕ → List ℕ → Answer → Answer
+unlessNamed names t A.Go = A.Go
+unlessNamed names t (A.Send k) = A.Send k
+unlessNamed names t (A.Image x k) = A.Image x k
+unlessNamed names t (A.Open i) = pick (namedBefore names t i i) A.Go (A.Open i)
+unlessNamed names t (A.Bytes k) = A.Bytes k
+unlessNamed names t A.EmptyRead = A.EmptyRead
+unlessNamed names t (A.Close i) = A.Close i
+unlessNamed names t (A.Finished how n) = A.Finished how n
+unlessNamed names t (A.Refused why) = A.Refused why
 
 abbrev pub merging : Host
-merging = amiss (λ t r. answering (unlessNamed t (r .answer)) r)
+merging = amiss (λ names t r. answering (unlessNamed names t (r .answer)) r)
 
--- ---- only says go: it reports nothing, which is a beginning of any report, and never the whole
+-- ---- only says go, whatever it is lent, and takes nothing: its report is empty, which is a beginning of any report, and never the whole
 
 abbrev pub idle : Host
 idle =

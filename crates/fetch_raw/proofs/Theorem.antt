@@ -1,35 +1,36 @@
 -- Demand 3 through the C interface, for every choice of calls: the numbers are the session's (`rawOf`), each call gives what the definitions' step gives, told
 -- as numbers and read back, and so the theorem goes over (`demand-carried`). Assumes nothing.
-use mathlib.Core.Path.{_≡_, refl, sym, ap, _∙_}
-use mathlib.Core.Bool.{Bool, true, false, true≢false}
-use mathlib.Core.List.{List}
+use mathlib.Core.Path.{_≡_, refl, sym}
+use mathlib.Core.Bool.{true, false, true≢false}
+use mathlib.Core.List.{List, [], _∷_}
 use Prim.Native.Nat.{ℕ, _≤_}
-use lib.ListN.{getD}
-use Rattle.base.proofs.Ranges.{by-then}
+use native.Mathlib.Omega.{arith}
+use lib.ListN.{length, getD}
+use Rattle.base.proofs.Ranges.{by-test, by-then}
 use Rattle.command.specs.Command.{modeNumber}
 use Rattle.verdict.specs.declared.Opening.{Opening}
+use Rattle.session.specs.declared.Phase.{Phase}
+use Rattle.session.specs.declared.Phase.the-variants as P
 use Rattle.session.specs.declared.Session.{Session}
-use Rattle.session.specs.declared.Stepped.{Stepped}
 use Rattle.session.specs.declared.Answer.{Answer}
 use Rattle.session.specs.declared.Answer.the-variants as A
-use Rattle.session.specs.Outcome.{Outcome, openedWith}
+use Rattle.session.specs.Outcome.{openedWith, isEnded, Outcome}
 use Rattle.session.specs.Answers.{answerNumber, answerValues}
 use Rattle.session.specs.Step.{stepOf}
 use Rattle.steps.specs.Steps.{FairRun}
 use Rattle.raw.specs.declared.RawSession.{RawSession}
-use Rattle.raw.specs.declared.RawStepped.{RawStepped}
-use Rattle.raw.specs.Raw.{backendNumber, execNumber, isOpening, isPhase, rawOf, isSession, openedRaw, rawStepped}
+use Rattle.raw.specs.Raw.{backendNumber, execNumber, isOpening, countsOf, rawOf, sessionOf, isSession, openedRaw, rawStepped}
 use Rattle.raw.proofs.Laws.{opening-back, session-is}
-use Rattle.worgesli.specs.Worgesli.{RawOutcome, rawOutcomeOf, stepRaw}
+use Rattle.worgesli.specs.Worgesli.{rawOutcomeOf, stepRaw}
 use Rattle.worgesli.proofs.Laws.{step-told}
 use Rattle.fetch.specs.Plain.{Debug, Setting}
-use Rattle.fetch.specs.Device.{definitions, givenOf, Lent, start, next}
+use Rattle.fetch.specs.Device.{definitions, givenOf, Lent, lent, delivered, World, start, next}
 use Rattle.fetch.specs.Claim.{Run, reports, owns, enough, Premises, Demand}
 use Rattle.fetch.specs.Meaning.{Meant}
-use Rattle.fetch.specs.Within.{StepWithin}
+use Rattle.fetch.specs.Within.{Within, StepWithin, replyWithin}
 use Rattle.fetch.proofs.Theorem.{fetch, means}
-use Rattle.fetch.proofs.Within.{within}
-use Rattle.fetch.proofs.Simulation.{Alike, demand-carried, within-carried}
+use Rattle.fetch.proofs.Within.{step-within, reply-within}
+use Rattle.fetch.proofs.Simulation.{Alike, demand-carried}
 use Rattle.fetch_raw.specs.Calls.{answerOf, Call, byValue, inPlace, calledOf, Called, openedCalls, givenRaw, calling}
 
 -- ---- what crosses is read back
@@ -98,8 +99,55 @@ module _ (choice : ℕ → Call) where
       → Meant c dbg (reports (calling choice) c (start (calling choice) c) ls)
   means-raw = means (calling choice) fetch-raw
 
-  -- and no number that crosses passes what was lent, in any list of calls from the opening, fair or not
-  pub within-raw : (c : Setting) (ls : List Lent)
-      → FairRun (next (calling choice) c) (StepWithin (calling choice) c) (start (calling choice) c) ls
-  within-raw c ls =
-      within-carried definitions (calling choice) Numbers opened-alike call-alike c ls (within c (start definitions c) ls)
+-- ---- no number that crosses passes what was lent
+
+-- what a session's step keeps within, its numbers do
+told-within : (n : ℕ) (r : Outcome) (d set t y o : List ℕ) → Within (givenOf r) d set t y o → Within (givenRaw n (rawOutcomeOf r)) d set t y o
+unfolding rawStepped
+told-within n r d set t y o x =
+    record {
+      taken = x .taken;
+      answer = rw (answer-back (r .stepped .answer)) (x .answer);
+      table = x .table;
+      reply = x .reply;
+      out = x .out;
+    }
+
+-- of any numbers, a session's or not
+pub step-within-raw : (n : ℕ) (r : RawSession) (d set names t y o : List ℕ) → Within (givenRaw n (stepRaw r d set names t y o)) d set t y o
+unfolding stepRaw rawStepped
+step-within-raw n r d set names t y o =
+    by-test (isSession r)
+    (λ e.
+    rw e (told-within n (stepOf (sessionOf r) d set names t y o) d set t y o (step-within (sessionOf r) d set names t y o)))
+    (λ e. rw e (record { taken = omega arith; answer = tt; table = refl; reply = refl; out = refl }))
+
+-- in any list of calls, from any numbers, fair or not
+pub within-raw : (choice : ℕ → Call) (c : Setting) (w : World Called) (ls : List Lent)
+    → FairRun (next (calling choice) c) (StepWithin (calling choice) c) w ls
+within-raw choice c w [] = tt
+within-raw choice c w (l ∷ ls) = (
+  rw (call-is (choice (w .state .calls)) (w .state .numbers))
+      (step-within-raw _ (w .state .numbers) (delivered (l .delivery) (w .queue)) (lent (l .set) (c .set)) (lent (l .names) (c .names))
+      (lent (l .table) (w .table)) (lent (l .reply) (w .reply)) (lent (l .out) (w .out))),
+  within-raw choice c (next (calling choice) c w l) ls,
+)
+
+-- an ended session's count is its reply's length
+reply-count : (p : Phase) (y : List ℕ) → replyWithin p y → countsOf p .phase ≡ 6 → countsOf p .count ≤ length y
+reply-count (P.Packet h) y f e = absurd (omega arith)
+reply-count (P.Response x) y f e = absurd (omega arith)
+reply-count (P.Switched k) y f e = absurd (omega arith)
+reply-count (P.Table x) y f e = absurd (omega arith)
+reply-count (P.Between k i) y f e = absurd (omega arith)
+reply-count (P.Region k x) y f e = absurd (omega arith)
+reply-count (P.Ended k) y f e = f
+
+-- so a call that ends a session leaves no longer a reply in it than the buffer it was lent
+pub reply-raw : (s : Session) (d set names t y o : List ℕ) → isEnded (s .phase) ≡ false
+    → stepRaw (rawOf s) d set names t y o .stepped .session .phase ≡ 6
+    → stepRaw (rawOf s) d set names t y o .stepped .session .count ≤ length y
+unfolding rawStepped rawOf
+reply-raw s d set names t y o e h =
+    let f = step-told s d set names t y o in
+    rw f (reply-count (stepOf s d set names t y o .stepped .session .phase) y (reply-within s d set names t y o e) (rw f at h))

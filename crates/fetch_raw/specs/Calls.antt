@@ -14,7 +14,7 @@ use Rattle.raw.specs.Raw.{backendNumber, execNumber, openedRaw}
 use Rattle.worgesli.specs.Worgesli.{RawOutcome, rawAt, stepRaw}
 use Rattle.fetch.specs.Device.{Given, Host}
 
--- the answer that a number and two values tell
+-- the answer that a number and two values tell; 8 is refused, as the numbers end there
 abbrev pub answerOf : ℕ → ℕ → ℕ → Answer
 answerOf n first second =
     pick (eqb n 0) A.Go
@@ -38,7 +38,7 @@ headOf r = r .mode ∷ r .command ∷ r .backend ∷ r .phase ∷ []
 abbrev pub numbersOf : RawSession → List ℕ
 numbersOf r = r .reads ∷ r .count ∷ r .at ∷ r .base ∷ r .len ∷ r .done ∷ r .outstanding ∷ r .due ∷ []
 
--- what a call gives: session, delivery, image set, names, table, reply and out buffers
+-- what a call gives: session, delivery, image set, names, table, reply and out buffers. In place, the numbers are laid out as arrays and read from there
 abbrev pub calledOf : Call → RawSession → List ℕ → List ℕ → List ℕ → List ℕ → List ℕ → List ℕ → RawOutcome
 calledOf byValue r d set names t y o = stepRaw r d set names t y o
 calledOf inPlace r d set names t y o = stepRaw (rawAt (headOf r) (numbersOf r) (r .window)) d set names t y o

@@ -1,10 +1,10 @@
 -- The step by its parts: refused for the image set or the names, else the phase with its own guard. Each goes by the tests. Assumes nothing.
 use mathlib.Core.Path.{_≡_, refl}
-use mathlib.Core.Bool.{Bool, true, false, not, _||_}
+use mathlib.Core.Bool.{true, false, _||_}
 use mathlib.Core.List.{List}
 use Prim.Native.Nat.{ℕ}
 use borrow.Author.Tests.{eq-eqb, ne-eqb}
-use lib.Dec.{ltb, eqb}
+use lib.Dec.{ltb}
 use lib.ListN.{length}
 use Rattle.base.specs.Choice.{pick}
 use Rattle.bundle.specs.Bundle.{wellFormed}

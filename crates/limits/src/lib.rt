@@ -44,11 +44,18 @@ pub fn held_limit(window: [u8; 48], held: usize) -> bool
     size as usize <= held
 }
 
+// A lent buffer shorter than the length k that it is to hold.
+fn shorter(buffer: &[u8], k: usize) -> bool
+    ensures { λ r. ⌜ r ≡ ltb (length (now (buffer .entry))) k ⌝ }
+{
+    buffer.len() < k
+}
+
 // A buffer shorter than the declared length, or more filled than that.
 pub fn filling_limit(x: Filling, buffer: &[u8]) -> bool
     ensures { λ r. ⌜ r ≡ fillingLimit x (now (buffer .entry)) ⌝ }
 {
-    if buffer.len() < x.declared {
+    if shorter(buffer, x.declared) {
         return true;
     }
     x.declared < x.filled
@@ -58,7 +65,7 @@ pub fn filling_limit(x: Filling, buffer: &[u8]) -> bool
 pub fn between_limit(k: usize, i: usize, table: &[u8]) -> bool
     ensures { λ r. ⌜ r ≡ (ltb (length (now (table .entry))) k || ltb (entriesIn 8 k) i) ⌝ }
 {
-    if table.len() < k {
+    if shorter(table, k) {
         return true;
     }
     k / 64 < i
@@ -88,7 +95,7 @@ fn past_region(len: u64, done: u64, outstanding: u64) -> bool
 pub fn region_limit(k: usize, x: Region, table: &[u8]) -> bool
     ensures { λ r. ⌜ r ≡ regionLimit 8 k x (now (table .entry)) ⌝ }
 {
-    if table.len() < k {
+    if shorter(table, k) {
         return true;
     }
     if k / 64 <= x.entry {

@@ -31,6 +31,7 @@ use Rattle.session.specs.Answers.{answerNumber, answerValues}
 use Rattle.raw.specs.declared.Counts.{Counts}
 use Rattle.raw.specs.declared.RawSession.{RawSession}
 use Rattle.raw.specs.declared.RawStepped.{RawStepped}
+use Rattle.raw.specs.declared.RawPlaced.{RawPlaced}
 use Rattle.raw.specs.declared.RawTold.{RawTold}
 
 -- ---- "Opened with mode, command or none, backend"
@@ -202,6 +203,10 @@ toldOf k a =
 -- a session's numbers, and what is told
 abbrev pub steppedAt : RawSession → RawTold → RawStepped
 steppedAt s r = record { session = s; taken = r .taken; first = r .first; second = r .second; answer = r .answer }
+
+-- what a step in place gives: what is told
+abbrev pub toldIn : RawPlaced → RawTold
+toldIn r = record { taken = r .taken; first = r .first; second = r .second; answer = r .answer }
 
 unfoldable pub rawStepped : Stepped → RawStepped
 rawStepped s = steppedAt (rawOf (s .session)) (toldOf (s .taken) (s .answer))

@@ -75,13 +75,22 @@ pub struct RawStepped {
     pub answer: u32,
 }
 
-// What a step in place gives: all of the above but the session.
-#[repr(C)]
+// What is told of a step beside the session.
 pub struct RawTold {
     pub taken: usize,
     pub first: u64,
     pub second: u64,
     pub answer: u32,
+}
+
+// What a step in place gives: what is told, and in a region the bytes that the next step waits for.
+#[repr(C)]
+pub struct RawPlaced {
+    pub taken: usize,
+    pub first: u64,
+    pub second: u64,
+    pub answer: u32,
+    pub waits: u64,
 }
 
 // The numbers of a phase.

@@ -7,7 +7,6 @@ use Prim.Native.Nat.{ℕ, _+_, _^_, _<_, _≤_}
 use borrow.Author.Tests.{ltb-false, leb-false, ne-eqb}
 use lib.Dec.{ltb, leb, eqb}
 use lib.ListN.{length}
-use Rattle.base.specs.Choice.{pick}
 use Rattle.base.proofs.Ranges.{by-test, by-else}
 use Rattle.verdict.specs.declared.Opening.{Opening}
 use Rattle.session.specs.declared.Region.{Region}
@@ -23,7 +22,7 @@ use Rattle.region_phase.specs.declared.Advance.{Advance}
 use Rattle.region_phase.specs.declared.Advance.the-variants as D
 use Rattle.base.proofs.Tests.{neither}
 
-pub record Within (f k : ℕ) (x : Region) (t : List ℕ) : Type 0 where
+pub record InLimits (f k : ℕ) (x : Region) (t : List ℕ) : Type 0 where
   pub table : k ≤ length t
   pub entry : x .entry < entriesIn f k
   pub counts : x .done + x .outstanding ≤ x .len
@@ -35,7 +34,7 @@ and-left true b e h = absurd (true≢false h)
 and-left false b e h = e
 
 -- a region that is not refused with 18 is within its limits
-pub region-within : (f k : ℕ) (x : Region) (t : List ℕ) → regionLimit f k x t ≡ false → Within f k x t
+pub region-within : (f k : ℕ) (x : Region) (t : List ℕ) → regionLimit f k x t ≡ false → InLimits f k x t
 region-within f k x t e =
     let sum : ℕ = x .done + x .outstanding in
     let A : Bool = ltb (length t) k in
@@ -102,7 +101,7 @@ module _ (u : Opening) (m : ℕ) (x : Region) (n : ℕ) (o : List ℕ) {v : Adva
 pub record Passed (m k : ℕ) (x : Region) (t o : List ℕ) : Type 0 where
   pub room : 48 ≤ length o
   pub reads : m ≤ 2 ^ 63 + 1
-  pub within : Within 8 k x t
+  pub within : InLimits 8 k x t
 
 pub advance-passed : (u : Opening) (m k : ℕ) (x : Region) (n : ℕ) (t o : List ℕ) {a : Advanced}
     → ((why : ℕ) → advanced (D.Refused why) o ≡ a → ⊥) → advanceOf u m k x n t o ≡ a → Passed m k x t o

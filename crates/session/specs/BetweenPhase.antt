@@ -25,6 +25,7 @@ abbrev pub openOf : ℕ → Session → ℕ → ℕ → List ℕ → NameCheck �
 openOf f s k i e N.Good = gives (inPhase s (P.Region k (region i (baseOf f e) (lengthOf f e) 0 0 false))) 0 (A.Open i)
 openOf f s k i e (N.Refused why) = gives (ended s) 0 (A.Refused why)
 
+-- k is the table's length in bytes, from the entry to go on from
 unfoldable pub betweenOf : ℕ → Session → ℕ → ℕ → List ℕ → List ℕ → Stepped
 betweenOf f s k from names t =
     let i = nextOf f names t (entriesIn f k - from) from in

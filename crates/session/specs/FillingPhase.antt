@@ -1,4 +1,4 @@
--- *Response* and *Table*: a lent buffer is filled. Document 01, "Session".
+-- *Response* and *Table*: a lent buffer is filled. Document 01, "Session". (`paste y at d n` of the kit: y with the first n bytes of d from at on.)
 use Prim.Native.Nat.{ℕ, _+_, _-_, min}
 use mathlib.Core.List.{List}
 use lib.Dec.{ltb}

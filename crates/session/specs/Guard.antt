@@ -18,7 +18,7 @@ use Rattle.session.specs.BetweenPhase.{betweenOf}
 use Rattle.session.specs.RegionPhase.{regionOf}
 use Rattle.session.specs.Limits.{readsLimit, phaseLimit}
 
--- 18 for a session as if it were in the phase p
+-- 18 for a session as if it were in the phase p; at its own phase it is `limitOf`
 abbrev pub limitAt : Session → Phase → List ℕ → List ℕ → Bool
 limitAt s p t y = readsLimit s || phaseLimit 8 (s .window) p t y
 

@@ -24,13 +24,14 @@ fillingLimit x b = ltb (length b) (x .declared) || ltb (x .declared) (x .filled)
 
 -- "done plus outstanding, the region's length; base plus length, 2^64 once anything is done or outstanding; entry number, the table's entries, inside
 -- a region one fewer"
+-- (in this order: the buffer, the entry, done plus outstanding, the end; 256 ^ f is 2^64)
 abbrev pub regionLimit : ℕ → ℕ → Region → List ℕ → Bool
 regionLimit f k x t =
     ltb (length t) k || leb (entriesIn f k) (x .entry) || ltb (x .len) (x .done + x .outstanding)
     || (not (eqb (x .done + x .outstanding) 0) && ltb (256 ^ f) (x .base + x .len))
 
--- "memory reads 2^63 + 1": 1,024 regions, the most that a table of 65,536 bytes has, of 2^53 chunks each, as many as 2^64 bytes have at 2,048 a chunk;
--- and one for the table
+-- "memory reads 2^63 + 1": one for the table, and 1,024 regions (65,536 / 64) of 2^53 chunks each: 2^64 bytes by 2,048, twice the chunks that 4,096 a read
+-- make
 abbrev pub readsLimit : Session → Bool
 readsLimit s = ltb (2 ^ 63 + 1) (s .reads)
 

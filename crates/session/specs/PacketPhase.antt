@@ -15,13 +15,14 @@ use Rattle.verdict.specs.declared.Verdict.the-variants as W
 use Rattle.session.specs.declared.Phase.the-variants as P
 use Rattle.session.specs.declared.Session.{Session}
 use Rattle.session.specs.declared.Answer.the-variants as A
-use Rattle.session.specs.Outcome.{inPhase, reading, holding, ended, filling, Outcome, outcome, gives}
+use Rattle.session.specs.Outcome.{reading, holding, ended, filling, Outcome, outcome, gives}
 
 -- the window with bytes x behind the first h held ones; what passes 48 bytes is not kept, and what stood behind x stays: a session's every byte is told
 abbrev pub keep : List ℕ → ℕ → List ℕ → List ℕ
 keep w h x = take 48 (take h w ++ x ++ drop (h + length x) w)
 
--- what a verdict does; w is the window, n the bytes taken
+-- what a verdict does; w is the window with the packet's bytes, n the bytes taken. A session that ends keeps the window that it had; where a memory debug
+-- came, holding sets the window and reading then the phase
 abbrev pub acted : Session → ℕ → List ℕ → List ℕ → List ℕ → List ℕ → Verdict → Outcome
 acted s n w t y o (W.Reply q) = outcome (gives (holding s w (P.Packet 0)) n (A.Send (sizeOf q))) t y (front q o)
 acted s n w t y o (W.Image x k) = outcome (gives (holding s w (P.Packet 0)) n (A.Image x k)) t y o
@@ -39,7 +40,8 @@ acted s n w t y o (W.Refused why) = outcome (gives (ended s) n (A.Refused why)) 
 unfoldable pub wholeOf : Session → ℕ → List ℕ → List ℕ → List ℕ → List ℕ → List ℕ → Outcome
 wholeOf s n w set t y o = acted s n w t y o (verdictOf (s .opening) set (length t) (length y) (take (lengthField w) w))
 
--- the header is whole: size is its length field
+-- the header is whole: size is its length field. 8 - h bytes end it where it is not good: h is less than 8 there, since a session that holds a bad header
+-- is above its limits (18)
 unfoldable pub sizedOf : Session → ℕ → List ℕ → ℕ → List ℕ → List ℕ → List ℕ → List ℕ → Outcome
 sizedOf s h d size set t y o =
     pick (badLength size)

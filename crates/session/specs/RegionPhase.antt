@@ -30,8 +30,8 @@ dueAfter u outstanding done = onUsb u && eqb outstanding 0 && eqb (done % 512) 0
 
 -- ---- what the steps of a region count: the opening, the memory reads so far and the region; no session is in it
 
-abbrev pub counted : Region → ℕ → ℕ → Answer → Counted
-counted x m n a = record { region = x; reads = m; taken = n; answer = a }
+abbrev pub countedTo : Region → ℕ → ℕ → Answer → Counted
+countedTo x m n a = record { region = x; reads = m; taken = n; answer = a }
 
 -- the region with other counts
 abbrev pub recounted : Region → ℕ → ℕ → Bool → Region
@@ -42,7 +42,7 @@ abbrev pub emptied : Region → Region
 emptied x = recounted x (x .done) (x .outstanding) false
 
 abbrev pub emptiedOf : ℕ → Region → Counted
-emptiedOf m x = counted (emptied x) m 0 A.EmptyRead
+emptiedOf m x = countedTo (emptied x) m 0 A.EmptyRead
 
 -- the next memory read, and the out buffer with it
 abbrev pub asksFor : Opening → Region → ℕ
@@ -51,7 +51,7 @@ asksFor u x = min (chunkOf u) (x .len - x .done)
 abbrev pub askedOf : Opening → ℕ → Region → Counted
 askedOf u m x =
     let n = asksFor u x in
-    counted (recounted x (x .done) n false) (suc m) 0 (A.Send (sizeOf (Q.MemRead64 (x .base + x .done) n)))
+    countedTo (recounted x (x .done) n false) (suc m) 0 (A.Send (sizeOf (Q.MemRead64 (x .base + x .done) n)))
 
 abbrev pub askedOut : Opening → Region → List ℕ → List ℕ
 askedOut u x o = front (Q.MemRead64 (x .base + x .done) (asksFor u x)) o
@@ -62,7 +62,7 @@ handedOf u m x k =
     let n = min (x .outstanding) k in
     let left = x .outstanding - n in
     let done = x .done + n in
-    counted (recounted x done left (dueAfter u left done)) m n (A.Bytes n)
+    countedTo (recounted x done left (dueAfter u left done)) m n (A.Bytes n)
 
 -- ---- the same of a session: k is the table's length
 
@@ -80,7 +80,8 @@ nextChunk s k x t y o =
     (outcome (countedIn s k (askedOf (s .opening) (s .reads) x)) t y (askedOut (s .opening) x o))
 
 -- "in the step after open (nothing done or outstanding, no empty read due)": 21 by the table that is lent in that step, 22 by the base and length that
--- the session keeps. Nothing is done only there: a memory read asks for at least a byte, and where bytes are outstanding they are handed out first
+-- the session keeps; 256 ^ f is 2^64. With nothing outstanding, done is 0 only before the first memory read: each asks for at least a byte, and its bytes are
+-- handed out before the next
 abbrev pub begunOf : ℕ → Session → ℕ → Region → List ℕ → List ℕ → List ℕ → NameCheck → Outcome
 begunOf f s k x t y o N.Good =
     pick (ltb (256 ^ f) (x .base + x .len)) (outcome (gives (ended s) 0 (A.Refused 22)) t y o) (nextChunk s k x t y o)

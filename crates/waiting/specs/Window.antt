@@ -24,7 +24,7 @@ use Rattle.session.specs.Step.{stepOf}
 abbrev pub heldAfter : List ℕ → List ℕ → Session → ℕ → List ℕ
 heldAfter b d z n = pick (eqb (heldIn (z .phase)) 0) [] (b ++ take n d)
 
--- while packets are read, w being the window: what is held is within its limit, and no memory read was sent
+-- while packets are read (the other phases say nothing), w being the window: what is held is within its limit, and no memory read was sent
 abbrev pub freshIn : Phase → List ℕ → ℕ → Type 0
 freshIn (P.Packet h) w reads = (heldLimit w h ≡ false) × (reads ≡ 0)
 freshIn (P.Response x) w reads = Unit
@@ -34,7 +34,7 @@ freshIn (P.Between k i) w reads = Unit
 freshIn (P.Region k x) w reads = Unit
 freshIn (P.Ended k) w reads = Unit
 
--- the session counts the bytes b, its window begins with the first 48 of them, and they are less than a packet
+-- the session counts the bytes b, its window begins with the first 48 of them (where more are held, it is these), and they are less than a packet
 pub record HoldsBytes (s : Session) (b : List ℕ) : Type 0 where
   pub size : length (s .window) ≡ 48
   pub count : length b ≡ heldIn (s .phase)

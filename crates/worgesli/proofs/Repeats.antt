@@ -8,7 +8,7 @@ use borrow.Author.Tests.{eq-eqb, ne-eqb, eqb-true}
 use lib.Dec.{ltb, eqb}
 use lib.ListN.{length, getD, replicate}
 use Rattle.base.specs.Choice.{pick}
-use Rattle.base.proofs.Ranges.{by-then}
+use Rattle.base.proofs.Ranges.{by-test, by-then, either}
 use Rattle.bundle.specs.Bundle.{wellFormed}
 use Rattle.command.specs.Command.{modeOf, commandOf}
 use Rattle.session.specs.declared.Region.{Region}
@@ -23,9 +23,9 @@ use Rattle.region_phase.specs.Advance.{Advanced, advanced, advanceWithin, advan
 use Rattle.region_phase.proofs.Laws.{advance-is}
 use Rattle.host.specs.Host.{phaseStep, regionWants, wantedIn}
 use Rattle.raw.specs.declared.RawSession.{RawSession}
-use Rattle.raw.specs.Raw.{openingOf, isOpening, regionIn, phaseOf, isPhase, rawOf, sessionOf, isSession, toldOf, steppedAt, rawStepped}
+use Rattle.raw.specs.Raw.{openingOf, isOpening, regionIn, phaseOf, noRegion, isPhase, rawOf, sessionOf, isSession, toldOf, steppedAt, rawStepped}
 use Rattle.raw.proofs.Laws.{raw-back}
-use Rattle.worgesli.specs.Worgesli.{rawOutcome, rawOutcomeOf, rawAt, stepRaw, wantedRaw}
+use Rattle.worgesli.specs.Worgesli.{rawOutcome, rawOutcomeOf, rawAt, stepRaw, waitsAt, wantedRaw}
 use Rattle.worgesli.specs.Place.{inRegion, regionAt, countedAt}
 use Rattle.worgesli.proofs.Laws.{step-formed, wanted-is}
 
@@ -41,6 +41,15 @@ phase-region r p = rw p refl
 region-session : (r : RawSession) → isOpening (r .mode) (r .command) (r .backend) ≡ true → r .phase ≡ 5 → ltb (r .due) 2 ≡ true → isSession r ≡ true
 unfolding isSession isPhase
 region-session r u p d = rw (u, p) d
+
+-- numbers with a region's phase that are no session's want nothing
+pub wanted-none : (h n w : List ℕ) → getD h 3 0 ≡ 5 → inRegion h n ≡ false → 0 ≡ wantedRaw (rawAt h n w)
+unfolding wantedRaw isSession isPhase
+wanted-none h n w p e =
+    by-test (isOpening (getD h 0 0) (getD h 1 0) (getD h 2 0))
+    (λ o.
+    by-test (ltb (getD n 7 0) 2) (λ d. absurd (true≢false (rw (eq-eqb (getD h 3 0) 5 p, d, o) at e))) (λ d. rw (o, p, d) refl))
+    (λ o. rw o refl)
 
 -- the session in place
 module _ (h n w : List ℕ) (e : inRegion h n ≡ true) where
@@ -131,3 +140,45 @@ module _ (outstanding due came : ℕ) where
 counts-met : (met 0 0 0 ≡ true) × (met 4096 0 1 ≡ true) × (met 0 1 0 ≡ true) × (came-to 4096 0 0 ≡ D.Waits)
 unfolding advanceOf advanceWithin modeOf commandOf
 counts-met = (refl, refl, refl, refl)
+
+-- ---- what a step in place tells of the bytes that the next one waits for
+
+-- of a session in another phase the numbers of a region are 0
+other-phase : (r : RawSession) → isPhase r ≡ true → eqb (r .phase) 5 ≡ false → noRegion r ≡ true
+unfolding isPhase
+other-phase r e f =
+    by-test (eqb (r .phase) 0) (λ p. by-then (eqb (r .at) 0) _ _ no (rw p at e) .1)
+    (λ p0.
+    by-test (eqb (r .phase) 1) (λ p. rw (p0, p) at e)
+    (λ p1.
+    by-test (eqb (r .phase) 2) (λ p. by-then (eqb (r .at) 0) _ _ no (rw (p0, p1, p) at e) .1)
+    (λ p2.
+    by-test (eqb (r .phase) 3) (λ p. rw (p0, p1, p2, p) at e)
+    (λ p3.
+    by-test (eqb (r .phase) 4) (λ p. rw (p0, p1, p2, p3, p) at e)
+    (λ p4.
+    by-test (eqb (r .phase) 6) (λ p. by-then (eqb (r .at) 0) _ _ no (rw (p0, p1, p2, p3, p4, f, p) at e) .1)
+    (λ p6. absurd (no (rw (p0, p1, p2, p3, p4, f, p6) at e))))))))
+
+none-waits : (r : RawSession) → noRegion r ≡ true → pick (eqb (r .due) 1) 0 (r .outstanding) ≡ 0
+none-waits r e =
+    let b = by-then (eqb (r .base) 0) _ _ no e in
+    let l = by-then (eqb (r .len) 0) _ _ no (b .1) in
+    let d = by-then (eqb (r .done) 0) _ _ no (l .1) in
+    let o = by-then (eqb (r .outstanding) 0) _ _ no (d .1) in
+    rw (eqb-true (r .outstanding) 0 (o .0)) (either (eqb (r .due) 1) 0)
+
+-- of a session in a region what it wants, of any other session 0
+module _ (h n w : List ℕ) (e : isSession (rawAt h n w) ≡ true) where
+  parts : (isOpening (getD h 0 0) (getD h 1 0) (getD h 2 0) ≡ true) × (isPhase (rawAt h n w) ≡ true)
+  unfolding isSession
+  parts = by-then (isOpening (getD h 0 0) (getD h 1 0) (getD h 2 0)) _ _ no e
+
+  dumping : getD h 3 0 ≡ 5 → inRegion h n ≡ true
+  unfolding isPhase
+  dumping p = rw (eq-eqb (getD h 3 0) 5 p, rw p at (parts .1), parts .0) refl
+
+  pub waits-wanted : waitsAt n ≡ pick (eqb (getD h 3 0) 5) (wantedRaw (rawAt h n w)) 0
+  waits-wanted =
+      by-test (eqb (getD h 3 0) 5) (λ p. rw p (wanted-at h n w (dumping (eqb-true (getD h 3 0) 5 p))))
+      (λ p. rw p (none-waits (rawAt h n w) (other-phase (rawAt h n w) (parts .1) p)))

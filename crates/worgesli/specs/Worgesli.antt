@@ -4,7 +4,7 @@
 use Prim.Native.Nat.{ℕ}
 use mathlib.Core.Bool.{true, false, not}
 use mathlib.Core.List.{List}
-use lib.Dec.{ltb}
+use lib.Dec.{ltb, eqb}
 use lib.ListN.{length, getD}
 use Rattle.base.specs.Choice.{pick}
 use Rattle.bundle.specs.Bundle.{wellFormed}
@@ -60,6 +60,11 @@ rawAt h n w =
     }
 
 -- no buffer is lent here, and what is no session cannot be ended: 18
+-- of the large numbers, the bytes that are outstanding and wait for no empty read: of a session in a region what it wants, of any other session 0
+-- (`waits-wanted` of proofs/Repeats)
+abbrev pub waitsAt : List ℕ → ℕ
+waitsAt n = pick (eqb (getD n 7 0) 1) 0 (getD n 6 0)
+
 unfoldable pub closedRaw : RawSession → RawStepped
 closedRaw r = pick (isSession r) (rawStepped (closedOf (sessionOf r))) (refusedRaw r 18)
 

@@ -3,6 +3,7 @@
 use bundle::Checked;
 use bundle::check_images;
 use bundle::check_names;
+use raw::RawPlaced;
 use raw::RawSession;
 use raw::RawStepped;
 use raw::RawTold;
@@ -19,8 +20,8 @@ ghost use lib.Dec.{ltb};
 ghost use lib.ListN.{length};
 ghost use Rattle.base.specs.Choice.{pick};
 ghost use Rattle.bundle.specs.Bundle.{wellFormed};
-ghost use Rattle.raw.specs.Raw.{toldOf, steppedAt};
-ghost use Rattle.worgesli.specs.Worgesli.{rawOutcome, stepRaw, rawAt, wantedRaw};
+ghost use Rattle.raw.specs.Raw.{toldOf, steppedAt, toldIn};
+ghost use Rattle.worgesli.specs.Worgesli.{rawOutcome, stepRaw, rawAt, waitsAt, wantedRaw};
 ghost use Rattle.worgesli.specs.Place.{inRegion, readyAt, regionAt, countedAt};
 
 // A session in place: head has its mode, command, backend and phase; numbers its memory reads, count, place, base, length, bytes done and outstanding, and
@@ -215,9 +216,8 @@ pub(crate) fn step_by_phase(
     put_back(raw::raw_stepped(t), head, numbers, window)
 }
 
-// As worgesli_step, with the session in place: mode, command, backend and phase; reads, count, at, base, len, done, outstanding and due; the window.
-#[no_mangle]
-pub extern "C" fn worgesli_step_in_place(
+// A step of a session in place: in a region on its numbers, else by its phase.
+fn step_at(
     head: &mut [u32; 4],
     numbers: &mut [u64; 8],
     window: &mut [u8; 48],
@@ -269,6 +269,56 @@ pub extern "C" fn worgesli_step_in_place(
     )
 }
 
+// The bytes that are outstanding and wait for no empty read.
+fn waits_at(numbers: &[u64; 8]) -> u64
+    ensures { λ r. ⌜ r ≡ waitsAt (now (numbers .entry)) ⌝ }
+{
+    if numbers[DUE] == 1 {
+        0
+    } else {
+        numbers[OUTSTANDING]
+    }
+}
+
+// As worgesli_step, with the session in place: mode, command, backend and phase; reads, count, at, base, len, done, outstanding and due; the window.
+#[no_mangle]
+pub extern "C" fn worgesli_step_in_place(
+    head: &mut [u32; 4],
+    numbers: &mut [u64; 8],
+    window: &mut [u8; 48],
+    delivery: &[u8],
+    set: &[u8],
+    names: &[u8],
+    table: &mut [u8],
+    reply: &mut [u8],
+    out: &mut [u8],
+) -> RawPlaced
+    ensures { λ r. ⌜ (rawOutcome (steppedAt (rawAt (now (head .exit)) (now (numbers .exit)) (now (window .exit))) (toldIn r))
+        (now (table .exit)) (now (reply .exit)) (now (out .exit))
+        ≡ stepRaw (rawAt (now (head .entry)) (now (numbers .entry)) (now (window .entry)))
+        (now (delivery .entry)) (now (set .entry)) (now (names .entry)) (now (table .entry)) (now (reply .entry)) (now (out .entry)))
+        × (r .waits ≡ waitsAt (now (numbers .exit))) ⌝ }
+{
+    let t = step_at(
+        head,
+        numbers,
+        window,
+        delivery,
+        set,
+        names,
+        table,
+        reply,
+        out,
+    );
+    RawPlaced {
+        taken: t.taken,
+        first: t.first,
+        second: t.second,
+        answer: t.answer,
+        waits: waits_at(numbers),
+    }
+}
+
 // As worgesli_wanted, of a session in place. In a region, where it is asked most, the numbers are at hand.
 #[no_mangle]
 pub extern "C" fn worgesli_wanted_in_place(
@@ -278,11 +328,14 @@ pub extern "C" fn worgesli_wanted_in_place(
 ) -> usize
     ensures { λ r. ⌜ r ≡ wantedRaw (rawAt (now (head .entry)) (now (numbers .entry)) (now (window .entry))) ⌝ }
 {
-    if in_region(head, numbers) {
-        if numbers[DUE] == 1 {
-            return 0;
+    if head[PHASE] == REGION {
+        if in_region(head, numbers) {
+            if numbers[DUE] == 1 {
+                return 0;
+            }
+            return numbers[OUTSTANDING] as usize;
         }
-        return numbers[OUTSTANDING] as usize;
+        return 0;
     }
     crate::worgesli_wanted(raw_at(head, numbers, window))
 }

@@ -186,16 +186,20 @@ impl Driver {
         P: FnMut(Progress),
     {
         self.settle(channel, sink, &mut progress)?;
-        // whether the next step may need bytes. Where it does and is lent none, it only says go.
-        let mut hungry = true;
+        // whether the next step may need bytes. Where it does and is lent none, it only says go. In a region the step before told how many.
+        let (mut hungry, mut waits) = (true, 0);
         loop {
-            let wanted = if hungry && self.from == self.to { self.session.wanted() } else { 0 };
+            let wanted = match hungry && self.from == self.to {
+                true if waits > 0 => waits,
+                true => self.session.wanted(),
+                false => 0,
+            };
             if wanted > 0 {
                 self.fill(channel, wanted)?;
             }
             let told = self.step();
-            hungry = true;
-            let done = match answer(&told) {
+            (hungry, waits) = (true, told.waits as usize);
+            let done = match answer(told.answer, told.first, told.second) {
                 Answer::Go => Ok(()),
                 Answer::Send(k) => self.send(channel, 0, k),
                 Answer::Image { start, len } => self.send_image(channel, start, start + len),
@@ -222,7 +226,7 @@ impl Driver {
 
     /// A step lent what was read and not taken yet.
     #[inline]
-    fn step(&mut self) -> raw::Told {
+    fn step(&mut self) -> raw::Placed {
         raw::step_in_place(
             self.session.raw_mut(),
             &self.input[self.from..self.to],

@@ -106,8 +106,8 @@ impl Refusal {
     /// What the number means.
     pub fn words(self) -> &'static str {
         match self.0 {
-            1 => "the image set is malformed, or has more than 64 slots or 4 GiB",
-            2 => "the name list is malformed, or has more than 64 names or 4 GiB",
+            1 => "the image set is malformed: its length, a slot's range, or more than 64 slots",
+            2 => "the name list is malformed: its length, a name's range, an absent name, or more than 64 names",
             3 => "the out buffer has fewer than 48 bytes",
             4 => "the session has already ended",
             5 => "the device sent a packet whose length is not from 8 to 4096",
@@ -123,7 +123,7 @@ impl Refusal {
             15 => "the device is ready for a command, and none was given",
             16 => "the device announced a response longer than the reply buffer",
             17 => "the device announced a memory table longer than 65,536 bytes or the table buffer",
-            18 => "a lent buffer is shorter than what the session fills, or the session's numbers are none that a run gives",
+            18 => "a lent buffer is shorter than what the session fills, or a number of the session is above its limit",
             19 => "a region's filename has no zero byte",
             20 => "a region's filename is not UTF-8 before its first zero byte",
             21 => "the 20 bytes of a region's filename are not UTF-8",

@@ -45,14 +45,15 @@ pub struct Stepped {
     pub answer: u32,
 }
 
-/// What a step in place gives: all of [`Stepped`] but the session.
+/// What a step in place gives: all of [`Stepped`] but the session, and in a region the bytes that the next step waits for, else 0.
 #[repr(C)]
 #[derive(Clone, Copy, Debug, PartialEq, Eq)]
-pub struct Told {
+pub struct Placed {
     pub taken: usize,
     pub first: u64,
     pub second: u64,
     pub answer: u32,
+    pub waits: u64,
 }
 
 /// An entry of the memory table; all 0 where `there` is 0.
@@ -118,10 +119,11 @@ const _: () = {
     assert!(offset_of!(Stepped, first) == 136);
     assert!(offset_of!(Stepped, second) == 144);
     assert!(offset_of!(Stepped, answer) == 152);
-    assert!(size_of::<Told>() == 32);
-    assert!(offset_of!(Told, first) == 8);
-    assert!(offset_of!(Told, second) == 16);
-    assert!(offset_of!(Told, answer) == 24);
+    assert!(size_of::<Placed>() == 40);
+    assert!(offset_of!(Placed, first) == 8);
+    assert!(offset_of!(Placed, second) == 16);
+    assert!(offset_of!(Placed, answer) == 24);
+    assert!(offset_of!(Placed, waits) == 32);
     assert!(size_of::<Entry>() == 72);
     assert!(offset_of!(Entry, description) == 24);
     assert!(offset_of!(Entry, filename) == 44);
@@ -170,7 +172,7 @@ unsafe extern "C" {
         reply_len: usize,
         out: *mut u8,
         out_len: usize,
-    ) -> Told;
+    ) -> Placed;
     pub safe fn worgesli_closed(s: Session) -> Stepped;
     pub safe fn worgesli_is_session(s: Session) -> bool;
     pub safe fn worgesli_wanted(s: Session) -> usize;
@@ -224,7 +226,7 @@ pub fn step_in_place(
     table: &mut [u8],
     reply: &mut [u8],
     out: &mut [u8],
-) -> Told {
+) -> Placed {
     let s: *mut Session = s;
     // Safe: as above. The session's parts lie where the assertions say: four u32, eight u64 (a usize is one) and the window.
     unsafe {

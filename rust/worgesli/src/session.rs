@@ -42,18 +42,18 @@ impl Session {
         out: &mut [u8],
     ) -> (usize, Answer) {
         let told = raw::step_in_place(&mut self.0, delivery, set, names, table, reply, out);
-        (told.taken, answer(&told))
+        (told.taken, answer(told.answer, told.first, told.second))
     }
 
     /// The channel was closed: refused (23), or (4) where the session had ended.
     pub fn closed(&mut self) -> Answer {
-        let raw::Stepped { session, taken, first, second, answer: number } = raw::worgesli_closed(self.0);
-        self.0 = session;
-        answer(&raw::Told { taken, first, second, answer: number })
+        let closed = raw::worgesli_closed(self.0);
+        self.0 = closed.session;
+        answer(closed.answer, closed.first, closed.second)
     }
 
-    /// How many bytes to read for the next step; 0: it needs none. A delivery of no more is taken whole, and who reads no more takes no
-    /// byte that belongs to what comes after Sahara.
+    /// How many bytes to read for the next step; 0: it needs none. Of a session within its limits a delivery of no more is taken whole, and who
+    /// reads no more takes no byte that belongs to what comes after Sahara.
     #[inline]
     pub fn wanted(&self) -> usize {
         raw::wanted_in_place(&self.0)
@@ -86,19 +86,19 @@ impl Session {
     }
 }
 
-/// What a step asks its caller to do.
+/// What a step asks its caller to do, by its answer's number and values.
 #[inline]
-pub(crate) fn answer(told: &raw::Told) -> Answer {
-    let (first, second) = (told.first as usize, told.second as usize);
-    match told.answer {
+pub(crate) fn answer(number: u32, first: u64, second: u64) -> Answer {
+    let at = first as usize;
+    match number {
         0 => Answer::Go,
-        1 => Answer::Send(first),
-        2 => Answer::Image { start: first, len: second },
-        3 => Answer::Open(first),
-        4 => Answer::Bytes(first),
+        1 => Answer::Send(at),
+        2 => Answer::Image { start: at, len: second as usize },
+        3 => Answer::Open(at),
+        4 => Answer::Bytes(at),
         5 => Answer::EmptyRead,
-        6 => Answer::Close(first),
-        7 => Answer::Finished { how: told.first as u8, reads: told.second },
-        _ => Answer::Refused(Refusal::new(told.first)),
+        6 => Answer::Close(at),
+        7 => Answer::Finished { how: first as u8, reads: second },
+        _ => Answer::Refused(Refusal::new(first)),
     }
 }

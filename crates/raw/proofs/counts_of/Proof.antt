@@ -1,7 +1,6 @@
 -- `raw::counts_of` meets its contract: by the phase. Assumes nothing.
 use mathlib.Core.Path.{refl, sym, ap, _∙_}
 use Rattle.raw.specs.Raw.{countsOf}
-use borrow.Author.Needs.{needs}
 use Rattle.raw.proofs.counts_of.Statement.{statement}
 use Rattle.raw.proofs.counts_of.Tie as tie
 

@@ -1,7 +1,6 @@
 -- `runs::all` is safe and ends: each case ends behind the place where it began. Assumes nothing.
 use Prim.Native.Nat.{_-_, _≤_}
 use mathlib.Core.Path.{_≡_}
-use native.Mathlib.Omega.{arith}
 use lib.ListN.{length}
 use borrow.Author.Needs.{needs}
 use Rattle.runs.proofs.all.Statement.{statement}

@@ -1,7 +1,6 @@
 -- `runs::run` is safe and ends: the buffers keep their lengths, the delivery lies within the device's bytes, and the turns are counted. Assumes nothing.
 use Prim.Native.Nat.{_-_, _≤_}
 use mathlib.Core.Path.{_≡_}
-use native.Mathlib.Omega.{arith}
 use lib.ListN.{length}
 use borrow.Author.Needs.{needs}
 use Rattle.runs.proofs.run.Statement.{statement}

@@ -22,9 +22,14 @@ fn step(
     let (mut t, mut y, mut o) = (table.to_vec(), reply.to_vec(), out.to_vec());
     let r = raw::step(s, delivery, set, names, &mut t, &mut y, &mut o);
     let told = raw::step_in_place(&mut place, delivery, set, names, table, reply, out);
-    let raw::Told { taken, first, second, answer } = told;
+    let raw::Placed { taken, first, second, answer, waits } = told;
     assert_eq!(raw::Stepped { session: place, taken, first, second, answer }, r, "{s:?}");
     assert!(t == table && y == reply && o == out, "{s:?}");
+    // of a session what it wants in a region, else 0
+    if raw::worgesli_is_session(place) {
+        let wanted = if place.phase == 5 { raw::worgesli_wanted(place) } else { 0 };
+        assert_eq!(waits, wanted as u64, "{place:?}");
+    }
     r
 }
 

@@ -5,7 +5,6 @@ use denote.Ref.{now}
 use Rattle.bundle.specs.Bundle.{wellFormed, imagesChecked, namesChecked}
 use Rattle.bundle.specs.declared.Checked.the-variants as C
 use Rattle.bundle.proofs.Laws.{checked-good, checked-refused}
-use borrow.Author.Needs.{needs}
 use Rattle.worgesli.proofs.place.formed.Statement.{statement}
 use Rattle.worgesli.proofs.place.formed.Tie as tie
 

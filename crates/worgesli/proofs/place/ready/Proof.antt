@@ -1,6 +1,5 @@
 -- `place::ready` meets its contract: by the first test. Assumes nothing.
 use mathlib.Core.Path.{sym, _∙_}
-use borrow.Author.Needs.{needs}
 use Rattle.worgesli.proofs.place.ready.Statement.{statement}
 use Rattle.worgesli.proofs.place.ready.Tie as tie
 

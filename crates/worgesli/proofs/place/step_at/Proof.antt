@@ -1,4 +1,4 @@
--- `place::worgesli_step_in_place` meets its contract: in a region by `counts-are` and `waits-are`; else it is `step_by_phase`. Assumes nothing.
+-- `place::step_at` meets its contract: in a region by `counts-are` and `waits-are`; else it is `step_by_phase`. Assumes nothing.
 use mathlib.Core.Path.{_≡_, refl, sym, ap, _∙_}
 use mathlib.Core.Bool.{true, false}
 use mathlib.Core.List.{List, [], _∷_}
@@ -11,7 +11,6 @@ use Rattle.base.proofs.Ranges.{by-then}
 use Rattle.bundle.specs.Bundle.{wellFormed}
 use Rattle.verdict.specs.declared.Opening.{Opening}
 use Rattle.session.specs.declared.Region.{Region}
-use Rattle.session.specs.declared.Answer.the-variants as A
 use Rattle.session.specs.declared.Counted.{Counted}
 use Rattle.region_phase.specs.declared.Advance.{Advance}
 use Rattle.region_phase.specs.declared.Advance.the-variants as D
@@ -20,11 +19,11 @@ use Rattle.region_phase.proofs.Laws.{advance-still}
 use Rattle.raw.specs.declared.RawTold.{RawTold}
 use Rattle.raw.specs.Raw.{openingOf, toldOf, steppedAt}
 use Rattle.worgesli.specs.Worgesli.{rawOutcome, rawAt, stepRaw}
-use Rattle.worgesli.specs.Place.{inRegion, regionAt, countedAt}
+use Rattle.worgesli.specs.Place.{inRegion, regionAt}
 use Rattle.worgesli.proofs.Repeats.{no, counts-are, waits-are}
 use borrow.Author.Needs.{needs}
-use Rattle.worgesli.proofs.place.worgesli_step_in_place.Statement.{statement}
-use Rattle.worgesli.proofs.place.worgesli_step_in_place.Tie as tie
+use Rattle.worgesli.proofs.place.step_at.Statement.{statement}
+use Rattle.worgesli.proofs.place.step_at.Tie as tie
 
 -- where the function begins, and the out buffer, from behind the step over the counts
 abbrev begun : tie.After-advance-region → tie.Start
@@ -182,8 +181,8 @@ returns-4 c =
     c .before .before .before .before .before .before .step-by-phase2 .ensures
     ∙ ap (stepRaw (rawAt h n (now (a .window))) (now (a .delivery)) (now (a .set)) (now (a .names)) (now (a .table)) (now (a .reply))) o
 
-pub worgesli-step-in-place-spec : {M : Type 1} → statement M
-worgesli-step-in-place-spec =
+pub step-at-spec : {M : Type 1} → statement M
+step-at-spec =
     tie.close
     (tie.spec
     ready-requires
