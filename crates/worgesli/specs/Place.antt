@@ -16,9 +16,14 @@ abbrev pub inRegion : List ℕ → List ℕ → Bool
 inRegion h n =
     pick (eqb (getD h 3 0) 5) (pick (ltb (getD n 7 0) 2) (isOpening (getD h 0 0) (getD h 1 0) (getD h 2 0)) false) false
 
--- and the image set and the names are well formed
+-- the region's next step neither begins nor closes it
+abbrev pub repeatsAt : List ℕ → Bool
+repeatsAt n =
+    pick (eqb (getD n 6 0) 0) (pick (eqb (getD n 7 0) 1) true (pick (eqb (getD n 5 0) 0) false (ltb (getD n 5 0) (getD n 4 0)))) true
+
+-- both, and the image set and the names are well formed
 abbrev pub readyAt : List ℕ → List ℕ → List ℕ → List ℕ → Bool
-readyAt h n set names = pick (inRegion h n) (pick (wellFormed true set) (wellFormed false names) false) false
+readyAt h n set names = pick (inRegion h n) (pick (repeatsAt n) (pick (wellFormed true set) (wellFormed false names) false) false) false
 
 -- the region that the large numbers tell
 abbrev pub regionAt : List ℕ → Region

@@ -22,7 +22,7 @@ ghost use Rattle.base.specs.Choice.{pick};
 ghost use Rattle.bundle.specs.Bundle.{wellFormed};
 ghost use Rattle.raw.specs.Raw.{toldOf, steppedAt, toldIn};
 ghost use Rattle.worgesli.specs.Worgesli.{rawOutcome, stepRaw, rawAt, waitsAt, wantedRaw};
-ghost use Rattle.worgesli.specs.Place.{inRegion, readyAt, regionAt, countedAt};
+ghost use Rattle.worgesli.specs.Place.{inRegion, repeatsAt, readyAt, regionAt, countedAt};
 
 // A session in place: head has its mode, command, backend and phase; numbers its memory reads, count, place, base, length, bytes done and outstanding, and
 // whether an empty read is due.
@@ -165,12 +165,30 @@ fn formed(set: &[u8], names: &[u8]) -> bool
     true
 }
 
-// A session in a region, and none of 1 and 2 refuses its step.
+// The region's next step neither begins nor closes it: these are left to the step by phase, which judges the image set and the names itself.
+fn repeats(numbers: &[u64; 8]) -> bool
+    ensures { λ r. ⌜ r ≡ repeatsAt (now (numbers .entry)) ⌝ }
+{
+    if numbers[OUTSTANDING] != 0 {
+        return true;
+    }
+    if numbers[DUE] == 1 {
+        return true;
+    }
+    if numbers[DONE] == 0 {
+        return false;
+    }
+    numbers[DONE] < numbers[LEN]
+}
+
+// A session in a region that goes on, and none of 1 and 2 refuses its step.
 fn ready(head: &[u32; 4], numbers: &[u64; 8], set: &[u8], names: &[u8]) -> bool
     ensures { λ r. ⌜ r ≡ readyAt (now (head .entry)) (now (numbers .entry)) (now (set .entry)) (now (names .entry)) ⌝ }
 {
     if in_region(head, numbers) {
-        return formed(set, names);
+        if repeats(numbers) {
+            return formed(set, names);
+        }
     }
     false
 }

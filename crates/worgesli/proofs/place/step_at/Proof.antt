@@ -19,7 +19,7 @@ use Rattle.region_phase.proofs.Laws.{advance-still}
 use Rattle.raw.specs.declared.RawTold.{RawTold}
 use Rattle.raw.specs.Raw.{openingOf, toldOf, steppedAt}
 use Rattle.worgesli.specs.Worgesli.{rawOutcome, rawAt, stepRaw}
-use Rattle.worgesli.specs.Place.{inRegion, regionAt}
+use Rattle.worgesli.specs.Place.{inRegion, repeatsAt, regionAt}
 use Rattle.worgesli.proofs.Repeats.{no, counts-are, waits-are}
 use borrow.Author.Needs.{needs}
 use Rattle.worgesli.proofs.place.step_at.Statement.{statement}
@@ -41,7 +41,8 @@ in-region g =
     let e = g .before .before .before .before .before .before .before .before .before .before .before in
     let a = begun g .args in
     let p = by-then (inRegion (now (a .head)) (now (a .numbers))) _ _ no (sym (e .before .ready .ensures) ∙ not-false _ (e .if1 .left)) in
-    (p .0, by-then (wellFormed true (now (a .set))) _ _ no (p .1))
+    let q = by-then (repeatsAt (now (a .numbers))) _ _ no (p .1) in
+    (p .0, by-then (wellFormed true (now (a .set))) _ _ no (q .1))
 
 -- and what was come to is the definition's
 come-to : (g : tie.After-advance-region) (v : Advance) → g .advance-region .result ≡ v → (let a = begun g .args in
