@@ -109,7 +109,7 @@ typedef struct worgesli_placed {
     uint64_t first;
     uint64_t second;
     uint32_t answer;
-    uint64_t waits; /* of a session in a region what worgesli_wanted would say now, of any other session 0 */
+    uint64_t waits; /* of a session in a region what worgesli_wanted would say now, of any other session 0; of other bits it says nothing */
 } worgesli_placed;
 
 /* An entry of the memory table; there 0: the table has no such entry, and all is 0. */

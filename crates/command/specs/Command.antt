@@ -63,7 +63,7 @@ leastBody K.MemDebug64 = 16
 leastBody K.MemRead64 = 16
 leastBody K.ReadData64 = 24
 
--- the mode, the command, of a number
+-- the mode, the command, of a number. Bad makes a body malformed: 9 (`helloOf`, `execRespOf`, `packetWith` of packet/specs/Packet)
 unfoldable pub modeOf : ℕ → ModeOf
 modeOf n =
     pick (eqb n (modeNumber M.WaitingForImage)) (MO.Is M.WaitingForImage)

@@ -22,7 +22,7 @@ use Rattle.session.specs.declared.Answer.the-variants as A
 use Rattle.session.specs.Outcome.{Outcome, outcome, gives, inPhase, ended, region}
 use Rattle.session.specs.BetweenPhase.{betweenOf}
 use Rattle.session.specs.Limits.{readsLimit, phaseLimit}
-use Rattle.fetch.specs.Plain.{Report, opened, closed, finished, Debug, chunks, chunkCount, chosen, regions, Setting}
+use Rattle.fetch.specs.Plain.{Report, opened, closed, finished, Debug, Ending, chunks, chunkCount, chosen, regions, Setting}
 use Rattle.fetch.specs.Claim.{Dumpable, regionBytes, regionReads}
 use Rattle.fetch.proofs.Basics.{entry-end}
 use Rattle.fetch.proofs.Chunk.{chunk-good, count-most}
@@ -135,7 +135,7 @@ abbrev pub Safe : Setting → Debug → Type 0
 Safe c dbg =
     (i : ℕ) → i < (dbg .size) / entrySize 8 → selected 8 (c .names) (entryOf 8 (tableAt c dbg) i) ≡ true → Dumpable 8 (entryOf 8 (tableAt c dbg) i)
 
-module _ (c : Setting) (dbg : Debug) (k i : ℕ) (w : Ghost) (g : GoodBetween c dbg k i w) where
+module _ (c : Setting) (dbg : Debug) (en : Ending) (k i : ℕ) (w : Ghost) (g : GoodBetween c dbg k i w) where
   -- 1,024 entries of at most 2^53 chunks each, and the table
   pub limits : (readsLimit (w .session) || phaseLimit 8 (w .session .window) (P.Between k i) (w .table) (w .reply)) ≡ false
   limits =
@@ -151,7 +151,7 @@ module _ (c : Setting) (dbg : Debug) (k i : ℕ) (w : Ghost) (g : GoodBetween c 
 
   module _ (d : List ℕ) (safe : Safe c dbg) where
     abbrev Keeps : Outcome → Type 0
-    Keeps r = Kept c dbg (dueBetween c dbg i w) (boundBetween c dbg i w) w d r
+    Keeps r = Kept c dbg en (dueBetween c dbg i w) (boundBetween c dbg i w) w d r
 
     abbrev t : List ℕ
     t = tableAt c dbg
@@ -220,5 +220,5 @@ module _ (c : Setting) (dbg : Debug) (k i : ℕ) (w : Ghost) (g : GoodBetween c 
         let h : found < (dbg .size) / entrySize 8 = ltb-true _ _ m in
         let f : entryOf 8 (w .table) found ≡ e = entry-same 8 (w .table) t (dbg .size) (g .table) room-for found h in
         let y : openCheck (filenameOf 8 e) ≡ N.Good = sound-open (filenameOf 8 e) (safe found h (here h .chose) .named) in
-        via c dbg (rw (g .declared, m, f, y) refl) (enter h))
-        (λ m. via c dbg (rw (g .declared, m) refl) (finish (ltb-false _ _ m)))
+        via c dbg en (rw (g .declared, m, f, y) refl) (enter h))
+        (λ m. via c dbg en (rw (g .declared, m) refl) (finish (ltb-false _ _ m)))

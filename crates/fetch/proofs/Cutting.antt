@@ -1,18 +1,19 @@
 -- The plain host's opening bytes, one packet at a time: by the tests of `hear`, and by induction on its fuel, of which the string's length is enough.
 -- Assumes nothing.
 use mathlib.Core.Path.{_≡_, refl, sym, _∙_}
-use mathlib.Core.Bool.{true, false}
+use mathlib.Core.Logic.{_⊎_, inl, inr}
+use mathlib.Core.Bool.{true, false, true≢false}
 use mathlib.Core.List.{List}
-use Prim.Native.Nat.{ℕ, zero, suc, _-_, _≤_}
+use Prim.Native.Nat.{ℕ, zero, suc, _-_, _≤_, _<_}
 use native.Mathlib.Omega.{arith}
 use lib.Dec.{ltb}
 use lib.ListN.{length, take, drop, length-drop}
-use borrow.Author.Tests.{ltb-false, lt-ltb}
+use borrow.Author.Tests.{ltb-true, ltb-false, lt-ltb}
 use Rattle.base.proofs.Ranges.{by-test}
 use Rattle.packet.specs.Packet.{lengthField, badLength}
 use Rattle.verdict.specs.Verdict.{verdictOf}
 use Rattle.verdict.specs.declared.Opening.{Opening}
-use Rattle.fetch.specs.Plain.{Debug, Heard, Stopped, Debugged, after, hear}
+use Rattle.fetch.specs.Plain.{Debug, Heard, Stopped, Responded, Debugged, stop, after, hear}
 
 -- a packet's length is 8..4096
 pub record Sized (size : ℕ) : Type 0 where
@@ -24,9 +25,12 @@ size-ok size e =
     by-test (ltb size 8) (λ m. absurd (let z : true ≡ false = rw m at e in let y : _≡_ {A = ℕ} 0 1 = cc in omega arith))
     (λ m. record { low = ltb-false _ _ m; high = ltb-false _ _ (rw m at e) })
 
--- a stop is no memory debug
+-- neither stop is a memory debug
 pub never : {A : Type 0} (dbg : Debug) (s : List ℕ) → Stopped ≡ Debugged dbg s → A
 never dbg s e = absurd (let y : _≡_ {A = ℕ} 0 1 = cc in omega arith)
+
+pub no-response : {A : Type 0} (dbg : Debug) (s : List ℕ) → Responded ≡ Debugged dbg s → A
+no-response dbg s e = absurd (let y : _≡_ {A = ℕ} 0 1 = cc in omega arith)
 
 module _ (u : Opening) (set : List ℕ) (tsize rsize : ℕ) where
   -- enough fuel is enough
@@ -58,30 +62,33 @@ module _ (u : Opening) (set : List ℕ) (tsize rsize : ℕ) where
     pub whole : lengthField s ≤ length s
     pub cut : hear u set tsize rsize (length s) s ≡ cutOff s
 
-  hear-suc : (f : ℕ) (s : List ℕ) (dbg : Debug) (r : List ℕ) → length s ≤ suc f → hear u set tsize rsize (suc f) s .ending ≡ Debugged dbg r
-      → (8 ≤ length s) × (badLength (lengthField s) ≡ false) × (lengthField s ≤ length s) × (hear u set tsize rsize (suc f) s ≡ cutOff s)
+  -- no whole packet is there: the header is not, or its length is bad, or the packet is cut short; and the plain host stops
+  pub record Halts (s : List ℕ) : Type 0 where
+    pub why : (8 ≤ length s → badLength (lengthField s) ≡ false) → 8 ≤ length s → length s < lengthField s
+    pub heard : hear u set tsize rsize (length s) s ≡ stop Stopped
+
+  more : (s : List ℕ) → hear u set tsize rsize (length s) s ≡ hear u set tsize rsize (suc (length s)) s
+  more s = fuel (length s) (suc (length s)) s (omega arith) (omega arith)
+
+  -- a string begins with a whole packet, or the plain host stops
+  pub starts : (s : List ℕ) → Begins s ⊎ Halts s
   unfolding hear
-  hear-suc f s dbg r k h =
-      by-test (ltb (length s) 8) (λ e. never dbg r (rw e at h))
+  starts s =
+      by-test (ltb (length s) 8) (λ e. inr (record { why = λ b l. absurd (omega (arith, ltb-true (length s) 8 e)); heard = more s ∙ rw e refl }))
       (λ e.
-      by-test (badLength (lengthField s)) (λ m. never dbg r (rw (e, m) at h))
+      by-test (badLength (lengthField s)) (λ m. inr (record { why = λ b l. absurd (true≢false (sym m ∙ b l)); heard = more s ∙ rw (e, m) refl }))
       (λ m.
-      by-test (ltb (length s) (lengthField s)) (λ i. never dbg r (rw (e, m, i) at h))
-      (λ i.
       let z : Sized (lengthField s) = size-ok _ m in
+      by-test (ltb (length s) (lengthField s))
+      (λ i. inr (record { why = λ b l. ltb-true (length s) (lengthField s) i; heard = more s ∙ rw (e, m, i) refl }))
+      (λ i.
       let l : length (drop (lengthField s) s) ≡ length s - lengthField s = length-drop _ s in
-      let y = fuel f (length (drop (lengthField s) s)) (drop (lengthField s) s) (omega arith) (omega arith) in
-      (ltb-false _ _ e, m, ltb-false _ _ i, rw (e, m, i, y) refl))))
-
-  hear-none : (s : List ℕ) → hear u set tsize rsize zero s .ending ≡ Stopped
-  unfolding hear
-  hear-none s = refl
-
-  pub begins : (s : List ℕ) (dbg : Debug) (r : List ℕ) → hear u set tsize rsize (length s) s .ending ≡ Debugged dbg r → Begins s
-  begins s dbg r h = go (length s) refl
-    where
-      go : (f : ℕ) → length s ≡ f → Begins s
-      go zero e = never dbg r (sym (hear-none s) ∙ (rw e at h))
-      go (suc f) e =
-          let p = hear-suc f s dbg r (omega arith) (rw e at h) in
-          record { header = p .0; good = p .1; sized = size-ok _ (p .1); whole = p .2; cut = rw e (p .3) }
+      let y = fuel (length s) (length (drop (lengthField s) s)) (drop (lengthField s) s) (omega arith) (omega arith) in
+      inl
+      (record {
+        header = ltb-false (length s) 8 e;
+        good = m;
+        sized = z;
+        whole = ltb-false (length s) (lengthField s) i;
+        cut = more s ∙ rw (e, m, i, y) refl;
+      }))))

@@ -1,5 +1,5 @@
--- The claim is about something. Deliveries of every size lead to the whole (`driven`). By computation: a device meets the premises on both backends, and a
--- list of odd deliveries and of steps refused, lent some of the run's own things and some others, runs on it, with its whole report. Assumes nothing.
+-- The claim is about something. Deliveries of every size lead to the whole (`driven`). By computation: devices are covered, one that comes to a memory debug on
+-- both backends and three that do not, and a list of odd deliveries and of steps refused, lent some of the run's own things and some others, runs on it, with its whole report. Assumes nothing.
 use mathlib.Core.Path.{_≡_, refl, _∙_}
 use mathlib.Core.Bool.{true}
 use mathlib.Core.List.{List, [], _∷_, _++_, map}
@@ -14,7 +14,7 @@ use Rattle.bundle.specs.Bundle.{slotsGood, wellFormed, slotOf}
 use Rattle.entry.specs.Entry.{entryOf}
 use Rattle.filename.specs.Filename.{before, has, stemOf, openCheck, afterOpenCheck, sound}
 use Rattle.selection.specs.Selection.{low, namesFrom, same, member, selected, nextOf}
-use Rattle.command.specs.Command.{modeOf, kinds, classOf}
+use Rattle.command.specs.Command.{modeOf, kinds, unimplemented, classOf}
 use Rattle.command.specs.declared.SaharaMode.the-variants as M
 use Rattle.packet.specs.Packet.{kindOf, decodeOf}
 use Rattle.build.specs.Build.{fields, words, longs, bytesOf}
@@ -42,6 +42,7 @@ use Rattle.fetch.specs.Plain.{
   bytesAt,
   Debug,
   debug,
+  Stopped,
   hear,
   hosted,
   chosen,
@@ -52,20 +53,21 @@ use Rattle.fetch.specs.Plain.{
   dump,
   reportsOf,
   Setting,
+  heardOf,
   plain,
 }
 use Rattle.fetch.specs.Device.{definitions, own, other, first, another, Lent, served, start}
-use Rattle.fetch.specs.Claim.{Run, reports, regionBytes, regionReads, enough, Dumpable, Premises}
+use Rattle.fetch.specs.Claim.{Run, reports, regionBytes, regionReads, enough, Dumpable, Premises, Covered, dumps, stops, enoughFor}
 use Rattle.fetch.proofs.Played.{lending, drive, drive-fair, drive-owns, allFair, played-fair}
 use Rattle.fetch.proofs.Theorem.{fetch}
 
 -- ---- deliveries of every size lead to the plain host's whole report
 
-pub driven : (c : Setting) (dbg : Debug) → Premises c dbg → (m : ℕ) → 1 ≤ m
-    → reports definitions c (start definitions c) (drive m (enough c dbg)) ≡ plain c
-driven c dbg p m e =
-    let k : ℕ = enough c dbg in
-    fetch c dbg p (drive m k) (drive-fair definitions c m k (start definitions c) e) .whole
+pub driven : (c : Setting) (x : Covered c) (m : ℕ) → 1 ≤ m
+    → reports definitions c (start definitions c) (drive m (enoughFor c x)) ≡ plain c
+driven c x m e =
+    let k : ℕ = enoughFor c x in
+    fetch c x (drive m k) (drive-fair definitions c m k (start definitions c) e) .whole
     (omega (arith, drive-owns definitions c m k (start definitions c)))
 
 -- ---- a device
@@ -216,4 +218,50 @@ planned U.Usb = refl
 -- and so by deliveries of every size
 anySize : (b : QdlBackend) (m : ℕ) → 1 ≤ m
     → reports definitions (device b) (start definitions (device b)) (drive m (enough (device b) dbg)) ≡ told b
-anySize b m e = driven (device b) dbg (premises b) m e ∙ planned b
+anySize b m e = driven (device b) (dumps dbg (premises b)) m e ∙ planned b
+
+-- ---- devices that come to no memory debug: one that is done, with two bytes behind it that are no Sahara any more; one whose packet is refused (an unknown
+-- command); one that is cut short
+
+abbrev loader : List ℕ → Setting
+loader rest =
+    record {
+      opening = on U.Usb;
+      set = words (1 ∷ 3 ∷ 0 ∷ 3 ∷ []) ++ (10 ∷ 11 ∷ 12 ∷ []);
+      names = replicate 8 0;
+      table = [];
+      reply = [];
+      out = replicate 48 0;
+      bytes = words (3 ∷ 20 ∷ 7 ∷ 1 ∷ 2 ∷ []) ++ rest;
+      mem = λ a. 0;
+    }
+
+abbrev done : List ℕ
+done = words (6 ∷ 12 ∷ 1 ∷ []) ++ (1 ∷ 2 ∷ [])
+
+abbrev unknown : List ℕ
+unknown = words (99 ∷ 8 ∷ [])
+
+abbrev cut : List ℕ
+cut = 6 ∷ 0 ∷ 0 ∷ []
+
+record Loads (rest : List ℕ) (n : ℕ) (l : List Report) : Type 0 where
+  pub covered : heardOf (loader rest) .ending ≡ Stopped
+  pub steps : enoughFor (loader rest) (stops covered) ≡ n
+  pub planned : plain (loader rest) ≡ l
+
+done-loads : Loads done 34 (image (11 ∷ 12 ∷ []) ∷ finished 1 0 ∷ [])
+unfolding plain hosted hear reportsOf dump wellFormed slotsGood slotOf verdictOf decodeOf classOf kinds kindOf fields le leBytes
+done-loads = record { covered = refl; steps = refl; planned = refl }
+
+unknown-loads : Loads unknown 28 (image (11 ∷ 12 ∷ []) ∷ [])
+unfolding plain hosted hear reportsOf dump wellFormed slotsGood slotOf verdictOf decodeOf classOf kinds kindOf unimplemented fields le leBytes
+unknown-loads = record { covered = refl; steps = refl; planned = refl }
+
+cut-loads : Loads cut 23 (image (11 ∷ 12 ∷ []) ∷ [])
+unfolding plain hosted hear reportsOf dump wellFormed slotsGood slotOf verdictOf decodeOf classOf kinds kindOf fields le leBytes
+cut-loads = record { covered = refl; steps = refl; planned = refl }
+
+anyLoad : (rest : List ℕ) (n : ℕ) (l : List Report) → Loads rest n l → (m : ℕ) → 1 ≤ m
+    → reports definitions (loader rest) (start definitions (loader rest)) (drive m n) ≡ l
+anyLoad rest n l x m e = rw (← x .steps) (driven (loader rest) (stops (x .covered)) m e) ∙ x .planned

@@ -1,7 +1,8 @@
 -- The invariant, by cases of the phase with its counts: what is well kept (goodAt), what the plain host would still report (dueAt), and a number that
--- bounds the own steps left (boundAt). One step keeps it: Kept. dbg is the memory debug that the plain host comes to. Assumes nothing.
+-- bounds the own steps left (boundAt). One step keeps it: Kept. en is how the plain host's opening ends, and dbg, where that is so, the memory debug that it
+-- comes to. Assumes nothing.
 use mathlib.Core.Path.{_≡_}
-use mathlib.Core.Bool.{Bool, true, not, _&&_}
+use mathlib.Core.Bool.{Bool, true, false, not, _&&_}
 use mathlib.Core.List.{List, [], _∷_, _++_, map}
 use Prim.Native.Nat.{ℕ, suc, _+_, _-_, _*_, _/_, _%_, _^_, _≤_, _<_}
 use lib.Dec.{eqb}
@@ -9,7 +10,7 @@ use lib.ListN.{length, take, drop}
 use Rattle.entry.specs.Entry.{entrySize, entryOf, filenameOf}
 use Rattle.filename.specs.Filename.{afterOpenCheck}
 use Rattle.filename.specs.declared.NameCheck.the-variants as N
-use Rattle.packet.specs.Packet.{lengthField}
+use Rattle.packet.specs.Packet.{lengthField, badLength}
 use Rattle.verdict.specs.Opening.{onUsb}
 use Rattle.verdict.specs.Verdict.{room}
 use Rattle.verdict.specs.declared.Opening.{Opening}
@@ -25,6 +26,9 @@ use Rattle.fetch.specs.Plain.{
   closed,
   bytesAt,
   Debug,
+  Ending,
+  Stopped,
+  Responded,
   Debugged,
   hear,
   emptyIf,
@@ -77,25 +81,32 @@ module _ (c : Setting) (dbg : Debug) where
   abbrev pub toCome : ℕ → List ℕ
   toCome i = chosen 8 (c .names) tableAt (dbg .size / entrySize 8 - i) i
 
-  -- packet, h bytes held: the bytes held and the queue are what is left of the opening
-  pub record GoodPacket (h : ℕ) (w : Ghost) : Type 0 where
+  -- packet, h bytes held: the bytes held and the queue are what is left of the opening, which ends in en
+  pub record GoodPacket (en : Ending) (h : ℕ) (w : Ghost) : Type 0 where
     pub out : 48 ≤ length (w .out)
     pub reads : w .session .reads ≡ 0
     pub size : length (w .session .window) ≡ 48
     pub count : length (w .back) ≡ h
     pub same : take h (w .session .window) ≡ take 48 (w .back)
     pub part : 8 ≤ h → h < lengthField (w .back)
+    pub sound : 8 ≤ h → badLength (lengthField (w .back)) ≡ false
     pub ends :
         hear (w .session .opening) (c .set) (length (w .table)) (length (w .reply)) (length (w .back ++ w .queue)) (w .back ++ w .queue) .ending
-        ≡ Debugged dbg []
+        ≡ en
 
   abbrev pub duePacket : Ghost → List Report
   duePacket w =
       reportsOf (w .session .opening) (c .mem) (c .names)
       (hear (w .session .opening) (c .set) (length (w .table)) (length (w .reply)) (length (w .back ++ w .queue)) (w .back ++ w .queue))
 
-  abbrev pub boundPacket : Ghost → ℕ
-  boundPacket w = length (w .queue) + dbg .size + 2 + cost (w .session .opening) tableAt (toCome 0)
+  -- the steps behind the opening
+  abbrev pub behind : Opening → Ending → ℕ
+  behind u Stopped = 0
+  behind u Responded = 0
+  behind u (Debugged b r) = dbg .size + 2 + cost u tableAt (toCome 0)
+
+  abbrev pub boundPacket : Ending → Ghost → ℕ
+  boundPacket en w = length (w .queue) + behind (w .session .opening) en
 
   -- table: the first bytes of the table buffer are the memory's, the queue holds the others
   pub record GoodTable (x : Filling) (w : Ghost) : Type 0 where
@@ -154,49 +165,50 @@ module _ (c : Setting) (dbg : Debug) where
   abbrev pub boundRegion : Region → Ghost → ℕ
   boundRegion x w = boundIn (w .session .opening) x + 2 + cost (w .session .opening) tableAt (toCome (suc (x .entry)))
 
-  -- ---- all phases: a run that comes to a memory debug is never in a response
-  abbrev pub goodAt : Phase → Ghost → Type 0
-  goodAt (P.Packet h) w = GoodPacket h w
-  goodAt (P.Response x) w = ⊥
-  goodAt (P.Switched k) w = ⊥
-  goodAt (P.Table x) w = GoodTable x w
-  goodAt (P.Between k i) w = GoodBetween k i w
-  goodAt (P.Region k x) w = GoodRegion k x w
-  goodAt (P.Ended k) w = 48 ≤ length (w .out)
+  -- ---- all phases: such a run is never in a response
+  module _ (en : Ending) where
+    abbrev pub goodAt : Phase → Ghost → Type 0
+    goodAt (P.Packet h) w = GoodPacket en h w
+    goodAt (P.Response x) w = ⊥
+    goodAt (P.Switched k) w = ⊥
+    goodAt (P.Table x) w = GoodTable x w
+    goodAt (P.Between k i) w = GoodBetween k i w
+    goodAt (P.Region k x) w = GoodRegion k x w
+    goodAt (P.Ended k) w = 48 ≤ length (w .out)
 
-  abbrev pub dueAt : Phase → Ghost → List Report
-  dueAt (P.Packet h) w = duePacket w
-  dueAt (P.Response x) w = []
-  dueAt (P.Switched k) w = []
-  dueAt (P.Table x) w = dueTable w
-  dueAt (P.Between k i) w = dueBetween i w
-  dueAt (P.Region k x) w = dueRegion x w
-  dueAt (P.Ended k) w = []
+    abbrev pub dueAt : Phase → Ghost → List Report
+    dueAt (P.Packet h) w = duePacket w
+    dueAt (P.Response x) w = []
+    dueAt (P.Switched k) w = []
+    dueAt (P.Table x) w = dueTable w
+    dueAt (P.Between k i) w = dueBetween i w
+    dueAt (P.Region k x) w = dueRegion x w
+    dueAt (P.Ended k) w = []
 
-  abbrev pub boundAt : Phase → Ghost → ℕ
-  boundAt (P.Packet h) w = boundPacket w
-  boundAt (P.Response x) w = 0
-  boundAt (P.Switched k) w = 0
-  boundAt (P.Table x) w = boundTable x w
-  boundAt (P.Between k i) w = boundBetween i w
-  boundAt (P.Region k x) w = boundRegion x w
-  boundAt (P.Ended k) w = 0
+    abbrev pub boundAt : Phase → Ghost → ℕ
+    boundAt (P.Packet h) w = boundPacket en w
+    boundAt (P.Response x) w = 0
+    boundAt (P.Switched k) w = 0
+    boundAt (P.Table x) w = boundTable x w
+    boundAt (P.Between k i) w = boundBetween i w
+    boundAt (P.Region k x) w = boundRegion x w
+    boundAt (P.Ended k) w = 0
 
-  abbrev pub Good : Ghost → Type 0
-  Good w = goodAt (w .session .phase) w
+    abbrev pub Good : Ghost → Type 0
+    Good w = goodAt (w .session .phase) w
 
-  abbrev pub dueOf : Ghost → List Report
-  dueOf w = dueAt (w .session .phase) w
+    abbrev pub dueOf : Ghost → List Report
+    dueOf w = dueAt (w .session .phase) w
 
-  abbrev pub boundOf : Ghost → ℕ
-  boundOf w = boundAt (w .session .phase) w
+    abbrev pub boundOf : Ghost → ℕ
+    boundOf w = boundAt (w .session .phase) w
 
-  -- an own step with delivery d and outcome r keeps what was due, and takes at least one from the bound
-  pub record Kept (due : List Report) (bound : ℕ) (w : Ghost) (d : List ℕ) (r : Outcome) : Type 0 where
-    pub good : Good (afterStep (c .mem) w d r)
-    pub told : due ≡ toldBy r d (c .set) ++ dueOf (afterStep (c .mem) w d r)
-    pub fell : boundOf (afterStep (c .mem) w d r) ≤ bound - 1
+    -- an own step with delivery d and outcome r keeps what was due, and takes at least one from the bound
+    pub record Kept (due : List Report) (bound : ℕ) (w : Ghost) (d : List ℕ) (r : Outcome) : Type 0 where
+      pub good : Good (afterStep (c .mem) w d r)
+      pub told : due ≡ toldBy r d (c .set) ++ dueOf (afterStep (c .mem) w d r)
+      pub fell : boundOf (afterStep (c .mem) w d r) ≤ bound - 1
 
-  -- Kept goes over to an equal outcome: which branch a step takes is shown apart from what the branch keeps
-  pub via : {due : List Report} {bound : ℕ} {w : Ghost} {d : List ℕ} {r r′ : Outcome} → r ≡ r′ → Kept due bound w d r′ → Kept due bound w d r
-  via e k = rw e k
+    -- Kept goes over to an equal outcome: which branch a step takes is shown apart from what the branch keeps
+    pub via : {due : List Report} {bound : ℕ} {w : Ghost} {d : List ℕ} {r r′ : Outcome} → r ≡ r′ → Kept due bound w d r′ → Kept due bound w d r
+    via e k = rw e k

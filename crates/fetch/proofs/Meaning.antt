@@ -55,7 +55,7 @@ use Rattle.fetch.proofs.Sent.{asks, asks-read, reads-append, reads-byte
 use Rattle.fetch.proofs.Device.{no-bytes, bytesAt-split}
 use Rattle.fetch.proofs.Chunk.{Chunk, chunk-good, chunk-some, count-none, count-step}
 use Rattle.fetch.proofs.Verdict.{sane}
-use Rattle.fetch.proofs.Cutting.{never}
+use Rattle.fetch.proofs.Cutting.{never, no-response}
 
 shown-append : (l m : List Report) → shown (l ++ m) ≡ shown l ++ shown m
 unfolding shown
@@ -189,7 +189,7 @@ module _ (u : Opening) (set : List ℕ) (tsize rsize : ℕ) where
         by ih e m i (W.Image x k) z = rw (e, m, i, z) (bytes (take k (drop x set)) _ (ih (rw (e, m, i, z) at h)))
         by ih e m i W.Pass z = rw (e, m, i, z) (ih (rw (e, m, i, z) at h))
         by ih e m i (W.Finish how) z = never dbg r (rw (e, m, i, z) at h)
-        by ih e m i (W.Respond c k) z = never dbg r (rw (e, m, i, z) at h)
+        by ih e m i (W.Respond c k) z = no-response dbg r (rw (e, m, i, z) at h)
         by ih e m i (W.Debug x k) z = rw (e, m, i, z) none
         by ih e m i (W.Refused why) z = never dbg r (rw (e, m, i, z) at h)
 

@@ -57,7 +57,7 @@ use Rattle.fetch.specs.Plain.{
   plain,
 }
 use Rattle.fetch.specs.Device.{Host, definitions, first, Lent, served, World, start, next}
-use Rattle.fetch.specs.Claim.{reports, regionBytes, regionReads, enough, Dumpable, Premises, Demand}
+use Rattle.fetch.specs.Claim.{reports, regionBytes, regionReads, enough, Dumpable, Premises, dumps, Demand}
 use Rattle.fetch.specs.Wrong.{namedBefore, hasty, thrifty, merging, idle}
 use Rattle.fetch.proofs.Played.{lending, drive, drive-fair, drive-owns, allFair, played-fair}
 use Rattle.base.proofs.Tests.{holds}
@@ -140,7 +140,7 @@ record Apart (h : Host) (c : Setting) (dbg : Debug) (ls : List Lent) (n i j : �
 refuted : (h : Host) (c : Setting) (dbg : Debug) (ls : List Lent) (n i j : ℕ) → Apart h c dbg ls n i j → (i ≡ j → ⊥) → Demand h → ⊥
 refuted h c dbg ls n i j a x d =
     let r : List Report = reports h c (start h c) ls in
-    let b = d c dbg (a .premises) ls (played-fair h c ls (start h c) (a .fair)) .begins in
+    let b = d c (dumps dbg (a .premises)) ls (played-fair h c ls (start h c) (a .fair)) .begins in
     x (sym (a .planned) ∙ ap (kindAt n) (b .1) ∙ kind-before n r (b .0) (a .far) ∙ a .played)
 
 -- ---- requests again after a short delivery: a region of 2 bytes, of which the first delivery has 1. The plain host goes on with the second byte (3), this
@@ -201,7 +201,8 @@ thrifty-apart =
 pub thrifty-refuted : Demand thrifty → ⊥
 thrifty-refuted = refuted thrifty block (debug 0 64) whole 515 4 5 thrifty-apart (λ e. omega (arith, e))
 
--- ---- an empty table, one byte a delivery: 24 steps for the memory debug, one for the table without a byte, one for the end
+-- ---- an empty table, one byte a delivery: 24 steps for the memory debug, one for the table without a byte, one for the end. (`drive 1 k` of Played: k own
+-- steps, each lent one byte of the queue at most)
 
 abbrev pub emptyTable : Setting
 emptyTable = small U.Serial []
@@ -236,7 +237,7 @@ pub idle-refuted : Demand idle → ⊥
 idle-refuted d =
     let w : World Session = start idle emptyTable in
     let e =
-    d emptyTable (debug 0 0) (tight .premises) (drive 1 26) (drive-fair idle emptyTable 1 26 w (lit≤ tt)) .whole
+    d emptyTable (dumps (debug 0 0) (tight .premises)) (drive 1 26) (drive-fair idle emptyTable 1 26 w (lit≤ tt)) .whole
     (omega (arith, tight .enough, drive-owns idle emptyTable 1 26 w)) in
     let z : _≡_ {A = ℕ} 0 2 = ap length (sym (idle-silent (drive 1 26) w) ∙ e ∙ tight .planned) in
     omega arith

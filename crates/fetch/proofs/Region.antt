@@ -23,7 +23,7 @@ use Rattle.session.specs.Outcome.{Outcome, outcome, gives, inPhase, reading, re
 use Rattle.session.specs.RegionPhase.{emptied, dueAfter, nextChunk, askOf, handOf, regionOf}
 use Rattle.session.specs.Limits.{readsLimit, phaseLimit}
 use Rattle.steps.specs.Steps.{one}
-use Rattle.fetch.specs.Plain.{Report, byte, sent, emptyRead, bytesAt, Debug, chunk, chunks, chunkCount, Setting}
+use Rattle.fetch.specs.Plain.{Report, byte, sent, emptyRead, bytesAt, Debug, Ending, chunk, chunks, chunkCount, Setting}
 use Rattle.fetch.proofs.Chunk.{Chunk, chunk-good, chunk-some, count-none, count-step}
 use Rattle.fetch.proofs.Ghost.{Ghost}
 use Rattle.base.proofs.Tests.{and-true, and-false}
@@ -152,7 +152,7 @@ hand-bound u i b l e k j h m y =
 below : {i j : ℕ} (c : ℕ) → i < j → i + 2 + c ≤ j + 2 + c - 1
 below c h = omega arith
 
-module _ (c : Setting) (dbg : Debug) (k : ℕ) (x : Region) (w : Ghost) (g : GoodRegion c dbg k x w) where
+module _ (c : Setting) (dbg : Debug) (en : Ending) (k : ℕ) (x : Region) (w : Ghost) (g : GoodRegion c dbg k x w) where
   -- what the session was opened with
   abbrev u : Opening
   u = w .session .opening
@@ -176,7 +176,7 @@ module _ (c : Setting) (dbg : Debug) (k : ℕ) (x : Region) (w : Ghost) (g : Goo
 
   module _ (d : List ℕ) (v : Came d (w .queue)) where
     abbrev Keeps : Outcome → Type 0
-    Keeps r = Kept c dbg (dueRegion c dbg x w) (boundRegion c dbg x w) w d r
+    Keeps r = Kept c dbg en (dueRegion c dbg x w) (boundRegion c dbg x w) w d r
 
     -- an empty read is due
     due-read : x .due ≡ true → Keeps (outcome (gives (inPhase (w .session) (P.Region k (emptied x))) 0 A.EmptyRead) (w .table) (w .reply) (w .out))
@@ -311,26 +311,26 @@ module _ (c : Setting) (dbg : Debug) (k : ℕ) (x : Region) (w : Ghost) (g : Goo
     next : x .due ≡ false → x .outstanding ≡ 0 → Keeps (nextChunk (w .session) k x (w .table) (w .reply) (w .out))
     unfolding nextChunk
     next e z =
-        by-test (leb (x .len) (x .done)) (λ m. via c dbg (rw m refl) (close e z (leb-true _ _ m)))
-        (λ m. via c dbg (rw m refl) (ask e z (leb-false _ _ m)))
+        by-test (leb (x .len) (x .done)) (λ m. via c dbg en (rw m refl) (close e z (leb-true _ _ m)))
+        (λ m. via c dbg en (rw m refl) (ask e z (leb-false _ _ m)))
 
     asked : x .due ≡ false → x .outstanding ≡ 0 → Keeps (askOf 8 (w .session) k x (w .table) (w .reply) (w .out))
     unfolding askOf
     asked e z =
         let t : ltb (256 ^ 8) (x .base + x .len) ≡ false = le-ltb (256 ^ 8) (x .base + x .len) (g .top) in
-        by-test (eqb (x .done) 0) (λ m. via c dbg (rw (m, g .named, t) refl) (next e z)) (λ m. via c dbg (rw m refl) (next e z))
+        by-test (eqb (x .done) 0) (λ m. via c dbg en (rw (m, g .named, t) refl) (next e z)) (λ m. via c dbg en (rw m refl) (next e z))
 
     handed : x .due ≡ false → (x .outstanding ≡ 0 → ⊥) → Keeps (handOf (w .session) k x d (w .table) (w .reply) (w .out))
     unfolding handOf
     handed e z =
         let q : length (w .queue) ≡ x .outstanding = ap length (g .queue) ∙ length-bytesAt (c .mem) _ (x .outstanding) in
         let y : 0 < length d = v .some (omega arith) in
-        via c dbg (rw (ne-eqb (length d) 0 (omega arith)) refl) (hand e z y (omega (arith, no-longer d (w .queue) v)))
+        via c dbg en (rw (ne-eqb (length d) 0 (omega arith)) refl) (hand e z y (omega (arith, no-longer d (w .queue) v)))
 
     pub regionKept : Keeps (regionOf 8 (w .session) k x d (w .table) (w .reply) (w .out))
     unfolding regionOf
     regionKept =
-        by-test (x .due) (λ e. via c dbg (rw e refl) (due-read e))
+        by-test (x .due) (λ e. via c dbg en (rw e refl) (due-read e))
         (λ e.
-        by-test (eqb (x .outstanding) 0) (λ z. via c dbg (rw (e, z) refl) (asked e (eqb-true (x .outstanding) 0 z)))
-        (λ z. via c dbg (rw (e, z) refl) (handed e (eqb-false (x .outstanding) 0 z))))
+        by-test (eqb (x .outstanding) 0) (λ z. via c dbg en (rw (e, z) refl) (asked e (eqb-true (x .outstanding) 0 z)))
+        (λ z. via c dbg en (rw (e, z) refl) (handed e (eqb-false (x .outstanding) 0 z))))

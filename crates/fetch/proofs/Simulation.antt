@@ -5,9 +5,9 @@ use mathlib.Core.List.{List, _++_}
 use Prim.Native.Nat.{ℕ}
 use Rattle.verdict.specs.declared.Opening.{Opening}
 use Rattle.steps.proofs.Steps.{outs-related, counted-related, fair-related}
-use Rattle.fetch.specs.Plain.{Report, Debug, Setting}
+use Rattle.fetch.specs.Plain.{Report, Setting}
 use Rattle.fetch.specs.Device.{Host, Given, Lent, lent, delivered, allOwn, World, start, made, next, reported, Fair}
-use Rattle.fetch.specs.Claim.{Run, reports, owns, Fetched, Demand}
+use Rattle.fetch.specs.Claim.{Run, reports, owns, enoughFor, Fetched, Demand}
 
 -- what two steps gave: the same, the states being related
 pub record Alike {S S′ : Type 0} (R : S → S′ → Type 0) (r : Given S) (r′ : Given S′) : Type 0 where
@@ -68,8 +68,8 @@ module _ (h k : Host) (R : h .State → k .State → Type 0) (fresh : (u : Openi
     same-fair : Run k c (start k c) ls → Run h c (start h c) ls
     same-fair f = fair-related (next h c) (next k c) Both both-kept (Fair h c) (Fair k c) both-fair ls (start h c) (start k c) both-start f
 
-    pub fetched-carried : (dbg : Debug) → Fetched h c dbg ls → Fetched k c dbg ls
-    fetched-carried dbg g =
+    pub fetched-carried : (n : ℕ) → Fetched h c n ls → Fetched k c n ls
+    fetched-carried n g =
         record {
           begins = (g .begins .0, g .begins .1 ∙ ap (λ (r : List Report). r ++ g .begins .0) same-reports);
           whole = λ e. sym same-reports ∙ g .whole (rw same-owns e);
@@ -80,5 +80,5 @@ pub demand-carried : (h k : Host) (R : h .State → k .State → Type 0) (fresh 
     (step : (s : h .State) (s′ : k .State) (d set names t y o : List ℕ) → R s s′
     → Alike R (h .step s d set names t y o) (k .step s′ d set names t y o))
     → Demand h → Demand k
-demand-carried h k R fresh step d c dbg p ls f =
-    fetched-carried h k R fresh step c ls dbg (d c dbg p ls (same-fair h k R fresh step c ls f))
+demand-carried h k R fresh step d c x ls f =
+    fetched-carried h k R fresh step c ls (enoughFor c x) (d c x ls (same-fair h k R fresh step c ls f))

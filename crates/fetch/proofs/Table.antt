@@ -16,12 +16,12 @@ use Rattle.session.specs.declared.Answer.the-variants as A
 use Rattle.session.specs.Outcome.{Outcome, outcome, gives, inPhase, filling}
 use Rattle.session.specs.FillingPhase.{tableOf}
 use Rattle.session.specs.Limits.{readsLimit, phaseLimit}
-use Rattle.fetch.specs.Plain.{Debug, Setting}
+use Rattle.fetch.specs.Plain.{Debug, Ending, Setting}
 use Rattle.fetch.proofs.Ghost.{Ghost}
 use Rattle.fetch.proofs.Device.{length-bytesAt, Came, first-of}
 use Rattle.fetch.proofs.Invariant.{tableAt, GoodTable, dueTable, boundTable, Kept, via}
 
-module _ (c : Setting) (dbg : Debug) (x : Filling) (w : Ghost) (g : GoodTable c dbg x w) where
+module _ (c : Setting) (dbg : Debug) (en : Ending) (x : Filling) (w : Ghost) (g : GoodTable c dbg x w) where
   abbrev t : List ℕ
   t = tableAt c dbg
 
@@ -45,7 +45,7 @@ module _ (c : Setting) (dbg : Debug) (x : Filling) (w : Ghost) (g : GoodTable c 
 
   module _ (d : List ℕ) (v : Came d (w .queue)) where
     abbrev Keeps : Outcome → Type 0
-    Keeps r = Kept c dbg (dueTable c dbg w) (boundTable c dbg x w) w d r
+    Keeps r = Kept c dbg en (dueTable c dbg w) (boundTable c dbg x w) w d r
 
     -- the bytes that a step takes
     abbrev k : ℕ
@@ -104,5 +104,5 @@ module _ (c : Setting) (dbg : Debug) (x : Filling) (w : Ghost) (g : GoodTable c 
     pub table : Keeps (tableOf (w .session) x d (w .table) (w .reply) (w .out))
     unfolding tableOf
     table =
-        by-test (ltb (f + k) (dbg .size)) (λ m. via c dbg (rw (g .declared, m) refl) (more (ltb-true _ _ m)))
-        (λ m. via c dbg (rw (g .declared, m) refl) (all (ltb-false _ _ m)))
+        by-test (ltb (f + k) (dbg .size)) (λ m. via c dbg en (rw (g .declared, m) refl) (more (ltb-true _ _ m)))
+        (λ m. via c dbg en (rw (g .declared, m) refl) (all (ltb-false _ _ m)))

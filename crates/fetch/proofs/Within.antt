@@ -37,7 +37,7 @@ use Rattle.session.specs.BetweenPhase.{entriesIn, openOf, betweenOf}
 use Rattle.session.specs.RegionPhase.{nextChunk, begunOf, askOf, handOf, regionOf}
 use Rattle.session.specs.Limits.{readsLimit, phaseLimit, limitOf}
 use Rattle.session.specs.Step.{onPhase, stepOf}
-use Rattle.steps.specs.Steps.{FairRun}
+use Rattle.steps.specs.Steps.{Throughout}
 use Rattle.fetch.specs.Plain.{Setting}
 use Rattle.fetch.specs.Device.{definitions, givenOf, Lent, lent, delivered, World, next}
 use Rattle.fetch.specs.Within.{answerWithin, Within, StepWithin, replyWithin}
@@ -236,7 +236,7 @@ module _ (s : Session) (d set names t y o : List ℕ) where
   reply-within = keeps .reply
 
 -- every step of every list, from any world: fair or not, refused or not, whatever it is lent
-pub within : (c : Setting) (w : World Session) (ls : List Lent) → FairRun (next definitions c) (StepWithin definitions c) w ls
+pub within : (c : Setting) (w : World Session) (ls : List Lent) → Throughout (next definitions c) (StepWithin definitions c) w ls
 within c w [] = tt
 within c w (l ∷ ls) = (
   step-within (w .state) (delivered (l .delivery) (w .queue)) (lent (l .set) (c .set)) (lent (l .names) (c .names)) (lent (l .table) (w .table))

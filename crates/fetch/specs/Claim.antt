@@ -11,20 +11,21 @@ use Rattle.entry.specs.Entry.{entrySize, entryOf, baseOf, lengthOf, filenameOf}
 use Rattle.filename.specs.Filename.{sound}
 use Rattle.selection.specs.Selection.{selected}
 use Rattle.verdict.specs.declared.Opening.{Opening}
-use Rattle.steps.specs.Steps.{FairRun, outs, counted}
-use Rattle.fetch.specs.Plain.{Report, Debug, Debugged, chunkCount, tableIn, selectedIn, Setting, heardOf, plain}
+use Rattle.steps.specs.Steps.{Throughout, outs, counted}
+use Rattle.fetch.specs.Plain.{Report, Debug, Stopped, Debugged, chunkCount, tableIn, selectedIn, Setting, heardOf, plain}
 use Rattle.fetch.specs.Device.{Host, Lent, World, allOwn, start, next, reported, Fair}
 
 module _ (h : Host) (c : Setting) where
   -- every step of the list is fair
   abbrev pub Run : World (h .State) → List Lent → Type 0
-  Run w ls = FairRun (next h c) (Fair h c) w ls
+  Run w ls = Throughout (next h c) (Fair h c) w ls
 
   -- what the list reports
   abbrev pub reports : World (h .State) → List Lent → List Report
   reports w ls = outs (next h c) (reported h c) w ls
 
-  -- how many of its steps were lent the run's own image set, names and buffers
+  -- how many of its steps were lent the run's own image set, names and buffers. Nothing else is looked at: such a step counts whatever its answer, a refused
+  -- one too
   abbrev pub owns : World (h .State) → List Lent → ℕ
   owns w ls = counted (next h c) (λ v l. allOwn l) w ls
 
@@ -37,8 +38,8 @@ unfoldable pub regionReads : ℕ → Opening → List ℕ → List ℕ → ℕ
 regionReads f u t [] = 0
 regionReads f u t (i ∷ is) = chunkCount u (lengthOf f (entryOf f t i)) + regionReads f u t is
 
--- the steps that are enough: the bytes, 2 for each selected region, 2 for each memory read, the table's and the chunks'. (That the plain host's own report has so many memory reads:
--- `enough-counts` of proofs/Theorem.)
+-- the steps, counted by `owns`, that are enough: the bytes, 2 for each selected region, 2 for each memory read, the table's and the chunks'. (That the plain host's own report
+-- has so many memory reads: `enough-counts` of proofs/Theorem. That one step fewer is not enough: `tight`, `one-fewer` of proofs/Refuted.)
 unfoldable pub enough : Setting → Debug → ℕ
 enough c dbg =
     let t = tableIn (c .mem) dbg in
@@ -50,19 +51,32 @@ pub record Dumpable (f : ℕ) (e : List ℕ) : Type 0 where
   pub top : baseOf f e + lengthOf f e ≤ 256 ^ f
   pub named : sound (filenameOf f e) ≡ true
 
--- the plain host comes to the memory debug with no opening byte after it; the table ends at or below 2^64; the selected regions can be dumped. (That the
--- table fits its buffer and 65,536 is part of the memory debug's verdict.)
+-- the plain host comes to the memory debug with no opening byte after it; the table ends at or below 2^64; the selected regions can be dumped. The first
+-- holds more: the image set and the names are well formed and the out buffer has 48 bytes (`hosted` of specs/Plain: else the plain host stops before), and
+-- the table fits its buffer and 65,536 (the memory debug's verdict). A setting c and a memory debug dbg are records of specs/Plain
 pub record Premises (c : Setting) (dbg : Debug) : Type 0 where
   pub opens : heardOf c .ending ≡ Debugged dbg []
   pub top : dbg .address + dbg .size ≤ 2 ^ 64
   pub regions : (i : ℕ) → i < dbg .size / entrySize 8 → selected 8 (c .names) (entryOf 8 (tableIn (c .mem) dbg) i) ≡ true
       → Dumpable 8 (entryOf 8 (tableIn (c .mem) dbg) i)
 
--- the claim: a beginning, and the whole once there are enough own steps
-pub record Fetched (h : Host) (c : Setting) (dbg : Debug) (ls : List Lent) : Type 0 where
+-- which openings are covered. The plain host comes to a memory debug, with these premises; or it stops: at a packet that finishes, is refused or is cut
+-- short, or before the first, where 1, 2 or 3 refuses every step. (Not where it stops at an ExecuteResp: there the host goes on with the response, and the
+-- plain host does not)
+pub data Covered (c : Setting) : Type 0 where
+  dumps : (dbg : Debug) → Premises c dbg → Covered c
+  stops : heardOf c .ending ≡ Stopped → Covered c
+
+-- the steps that are enough, of either: without a memory debug there is no table, no region and no memory read to count
+abbrev pub enoughFor : (c : Setting) → Covered c → ℕ
+enoughFor c (dumps dbg p) = enough c dbg
+enoughFor c (stops e) = length (c .bytes)
+
+-- the claim: a beginning, and the whole once there are n own steps. (l : A) × P says that there is an l of which P holds
+pub record Fetched (h : Host) (c : Setting) (n : ℕ) (ls : List Lent) : Type 0 where
   pub begins : (l : List Report) × (plain c ≡ reports h c (start h c) ls ++ l)
-  pub whole : enough c dbg ≤ owns h c (start h c) ls → reports h c (start h c) ls ≡ plain c
+  pub whole : n ≤ owns h c (start h c) ls → reports h c (start h c) ls ≡ plain c
 
 -- of every run and every list
 abbrev pub Demand : Host → Type 0
-Demand h = (c : Setting) (dbg : Debug) → Premises c dbg → (ls : List Lent) → Run h c (start h c) ls → Fetched h c dbg ls
+Demand h = (c : Setting) (x : Covered c) (ls : List Lent) → Run h c (start h c) ls → Fetched h c (enoughFor c x) ls

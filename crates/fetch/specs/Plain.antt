@@ -52,9 +52,10 @@ pub record Debug : Type 0 where
 abbrev pub debug : ℕ → ℕ → Debug
 debug a k = record { address = a; size = k }
 
--- how the opening bytes end: stopped, or a memory debug with what stands after it
+-- how the opening bytes end: stopped; stopped at an ExecuteResp, where a host goes on with the response; or a memory debug with what stands after it
 pub data Ending : Type 0 where
   Stopped : Ending
+  Responded : Ending
   Debugged : Debug → List ℕ → Ending
 
 pub record Heard : Type 0 where
@@ -73,7 +74,7 @@ after set s rest (W.Reply q) = say (sent (bytesOf q)) rest
 after set s rest (W.Image x k) = say (image (take k (drop x set))) rest
 after set s rest W.Pass = rest
 after set s rest (W.Finish how) = say (finished how 0) (stop Stopped)
-after set s rest (W.Respond c k) = say (sent (bytesOf (Q.ExecuteData c))) (stop Stopped)
+after set s rest (W.Respond c k) = say (sent (bytesOf (Q.ExecuteData c))) (stop Responded)
 after set s rest (W.Debug a k) = stop (Debugged (debug a k) s)
 after set s rest (W.Refused why) = stop Stopped
 
@@ -148,6 +149,7 @@ selectedIn f mem names dbg = chosen f names (tableIn mem dbg) (dbg .size / entry
 -- what stands after the memory debug is not looked at (the claim's premises have none)
 unfoldable pub dump : Opening → (ℕ → ℕ) → List ℕ → Ending → List Report
 dump u mem names Stopped = []
+dump u mem names Responded = []
 dump u mem names (Debugged dbg s) =
     sent (bytesOf (Q.MemRead64 (dbg .address) (dbg .size))) ∷ regions 8 u mem (tableIn mem dbg) (selectedIn 8 mem names dbg) 1
 

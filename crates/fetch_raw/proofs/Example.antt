@@ -31,7 +31,7 @@ use Rattle.fetch.specs.Plain.{
   plain,
 }
 use Rattle.fetch.specs.Device.{start}
-use Rattle.fetch.specs.Claim.{reports, regionBytes, regionReads, enough}
+use Rattle.fetch.specs.Claim.{reports, regionBytes, regionReads, enough, dumps}
 use Rattle.fetch.proofs.Played.{drive, drive-fair, drive-owns}
 use Rattle.fetch.proofs.Refuted.{two, two-premises}
 use Rattle.fetch_raw.specs.Calls.{Call, byValue, inPlace, calling}
@@ -58,6 +58,6 @@ pub mixed : (m : ℕ) → 1 ≤ m
     → reports (calling byTurns) two (start (calling byTurns) two) (drive m 96)
     ≡ sent (bytesOf (Q.MemRead64 0 64)) ∷ opened 0 ∷ sent (bytesOf (Q.MemRead64 1000 2)) ∷ byte 247 ∷ byte 248 ∷ closed 0 ∷ finished 3 2 ∷ []
 mixed m e =
-    fetch-raw byTurns two (debug 0 64) two-premises (drive m 96) (drive-fair (calling byTurns) two m 96 (start (calling byTurns) two) e) .whole
+    fetch-raw byTurns two (dumps (debug 0 64) two-premises) (drive m 96) (drive-fair (calling byTurns) two m 96 (start (calling byTurns) two) e) .whole
     (omega (arith, steps, drive-owns (calling byTurns) two m 96 (start (calling byTurns) two)))
     ∙ planned

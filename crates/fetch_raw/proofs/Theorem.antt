@@ -17,12 +17,12 @@ use Rattle.session.specs.declared.Answer.the-variants as A
 use Rattle.session.specs.Outcome.{openedWith, isEnded, Outcome}
 use Rattle.session.specs.Answers.{answerNumber, answerValues}
 use Rattle.session.specs.Step.{stepOf}
-use Rattle.steps.specs.Steps.{FairRun}
+use Rattle.steps.specs.Steps.{Throughout}
 use Rattle.raw.specs.declared.RawSession.{RawSession}
 use Rattle.raw.specs.Raw.{backendNumber, execNumber, isOpening, countsOf, rawOf, sessionOf, isSession, openedRaw, rawStepped}
 use Rattle.raw.proofs.Laws.{opening-back, session-is}
-use Rattle.worgesli.specs.Worgesli.{rawOutcomeOf, stepRaw}
-use Rattle.worgesli.proofs.Laws.{step-told}
+use Rattle.raw_step.specs.RawStep.{rawOutcomeOf, stepRaw}
+use Rattle.raw_step.proofs.Laws.{step-told}
 use Rattle.fetch.specs.Plain.{Debug, Setting}
 use Rattle.fetch.specs.Device.{definitions, givenOf, Lent, lent, delivered, World, start, next}
 use Rattle.fetch.specs.Claim.{Run, reports, owns, enough, Premises, Demand}
@@ -124,7 +124,7 @@ step-within-raw n r d set names t y o =
 
 -- in any list of calls, from any numbers, fair or not
 pub within-raw : (choice : ℕ → Call) (c : Setting) (w : World Called) (ls : List Lent)
-    → FairRun (next (calling choice) c) (StepWithin (calling choice) c) w ls
+    → Throughout (next (calling choice) c) (StepWithin (calling choice) c) w ls
 within-raw choice c w [] = tt
 within-raw choice c w (l ∷ ls) = (
   rw (call-is (choice (w .state .calls)) (w .state .numbers))

@@ -11,7 +11,7 @@ use Rattle.session.specs.declared.Answer.{Answer}
 use Rattle.session.specs.declared.Answer.the-variants as A
 use Rattle.raw.specs.declared.RawSession.{RawSession}
 use Rattle.raw.specs.Raw.{backendNumber, execNumber, openedRaw}
-use Rattle.worgesli.specs.Worgesli.{RawOutcome, rawAt, stepRaw}
+use Rattle.raw_step.specs.RawStep.{RawOutcome, rawAt, stepRaw}
 use Rattle.fetch.specs.Device.{Given, Host}
 
 -- the answer that a number and two values tell; 8 is refused, as the numbers end there

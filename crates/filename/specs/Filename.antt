@@ -25,7 +25,7 @@ has b (x ∷ xs) = pick (eqb x b) true (has b xs)
 unfoldable pub stemOf : List ℕ → List ℕ
 stemOf name = pick (utf8 name) (before 0x2E name) []
 
--- what opening a region says of its name
+-- what opening a region says of its name: 19 where no byte is zero, else 20 where those before the first zero are not UTF-8
 unfoldable pub openCheck : List ℕ → NameCheck
 openCheck name = pick (has 0 name) (pick (utf8 (before 0 name)) N.Good (N.Refused 20)) (N.Refused 19)
 

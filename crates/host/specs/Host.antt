@@ -48,15 +48,18 @@ needsBytes (P.Between k i) = false
 needsBytes (P.Region k x) = regionWaits x
 needsBytes (P.Ended k) = false
 
--- how many bytes are asked for, as the Rust's reads ask: of a packet its header, then what its length field leaves; what is missing of a response or a
--- table; what is outstanding of a region. 0 where none are needed, and where more is there than was declared. Of a session within its limits: 0 exactly
--- where none are needed, and a step lent no more takes all of it (`wanted-needs`, `takes-all` of waiting/proofs/Waiting)
+-- of a packet its header, then what its length field leaves; w is the window, h the bytes held
 abbrev pub packetWants : List ℕ → ℕ → ℕ
 packetWants w h = pick (ltb h 8) (8 - h) (lengthField w - h)
 
+-- of a region what is outstanding
 abbrev pub regionWants : Region → ℕ
 regionWants x = pick (x .due) 0 (x .outstanding)
 
+-- how many bytes are asked for, as the Rust's reads ask: of a packet its header, then what its length field leaves; what is missing of a response or a
+-- table; what is outstanding of a region. 0 where none are needed, and where more is there than was declared. Of a session within its limits: 0 exactly
+-- where none are needed, and a step lent no more takes all of it (`wanted-needs`, `takes-all` of waiting/proofs/Waiting).
+-- It is not the most that a step takes: one lent more than a header goes on to the packet's end
 abbrev pub wantedIn : List ℕ → Phase → ℕ
 wantedIn w (P.Packet h) = packetWants w h
 wantedIn w (P.Response x) = x .declared - x .filled

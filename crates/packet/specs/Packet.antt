@@ -1,6 +1,6 @@
 -- Decoding of a packet. Document 01, Records, "Packet": command (4 bytes), total length (4 bytes), body; "Extra body bytes are ignored in decoding."
 -- Refusals, "Decode": 9 below 8 bytes; 6 unknown; 7 XML; 8 unimplemented; 9 short body or bad mode or command. The length field is handed on and not
--- judged; `sahara_read_packet` refuses it outside 8..4096 (5).
+-- judged; `sahara_read_packet_length` refuses it outside 8..4096 (5).
 use Prim.Native.Nat.{ℕ, _+_, _*_}
 use mathlib.Core.Bool.{Bool, true}
 use mathlib.Core.List.{List}
@@ -62,7 +62,7 @@ abbrev pub helloRespOf : List ℕ → ModeOf → Body
 helloRespOf p (MO.Is m) = Y.Is (B.HelloResp (helloWords p m))
 helloRespOf p MO.Bad = Y.Malformed
 
--- "ExecuteResp: command, length."
+-- "ExecuteResp: command, length." A command above 3 makes it malformed: 9
 abbrev pub execRespOf : List ℕ → CommandOf → Body
 execRespOf p (CO.Is c) = Y.Is (B.ExecResp (record { command = c; len = word p 1 }))
 execRespOf p CO.Bad = Y.Malformed
@@ -126,7 +126,7 @@ kindIn (B.Debug64Req b) = K.MemDebug64
 kindIn (B.ReadMem64Req b) = K.MemRead64
 kindIn (B.ReadData64Req b) = K.ReadData64
 
--- the length rule of `sahara_read_packet`
+-- the length rule: refused (5) by `lengthChecked`, and in a step by `sizedOf` of session/specs/PacketPhase, before the command is looked at
 abbrev pub badLength : ℕ → Bool
 badLength n = pick (ltb n 8) true (ltb 4096 n)
 

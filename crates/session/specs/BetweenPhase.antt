@@ -1,5 +1,6 @@
 -- *Between regions*. Document 01, "Session": "take nothing; open the next selected entry, i its place in the table from 0, its base and length kept in
--- the session from then on, or finish (3)". f is the width of an entry's numbers.
+-- the session from then on, or finish (3)". f is the width of an entry's numbers: 8 in the step,
+-- so that an entry (`entrySize f`) has 64 bytes.
 use Prim.Native.Nat.{ℕ, _-_, _/_}
 use mathlib.Core.Bool.{false}
 use mathlib.Core.List.{List}
@@ -16,7 +17,7 @@ use Rattle.session.specs.declared.Answer.the-variants as A
 use Rattle.session.specs.declared.Stepped.{Stepped}
 use Rattle.session.specs.Outcome.{inPhase, ended, region, gives}
 
--- "Entries are length / 64"
+-- "Entries are length / 64": a remainder is no entry
 abbrev pub entriesIn : ℕ → ℕ → ℕ
 entriesIn f k = k / entrySize f
 
@@ -25,7 +26,7 @@ abbrev pub openOf : ℕ → Session → ℕ → ℕ → List ℕ → NameCheck �
 openOf f s k i e N.Good = gives (inPhase s (P.Region k (region i (baseOf f e) (lengthOf f e) 0 0 false))) 0 (A.Open i)
 openOf f s k i e (N.Refused why) = gives (ended s) 0 (A.Refused why)
 
--- k is the table's length in bytes, from the entry to go on from
+-- k is the table's length in bytes, from the entry to go on from. The name that is judged is that of the next selected entry, and of no other
 unfoldable pub betweenOf : ℕ → Session → ℕ → ℕ → List ℕ → List ℕ → Stepped
 betweenOf f s k from names t =
     let i = nextOf f names t (entriesIn f k - from) from in

@@ -22,11 +22,12 @@ responseOf s x d t y o =
     (outcome (gives (inPhase s (P.Response (filling (x .declared) (x .filled + n)))) n A.Go) t (paste y (x .filled) d n) o)
     (outcome (gives (inPhase s (P.Switched (x .declared))) n (A.Send (sizeOf Q.SwitchMode))) t (paste y (x .filled) d n) (front Q.SwitchMode o))
 
+-- "the next step finishes (4)", whatever is delivered; k is the reply's length
 unfoldable pub switchedOf : Session → ℕ → List ℕ → List ℕ → List ℕ → Outcome
 switchedOf s k t y o = outcome (gives (inPhase s (P.Ended k)) 0 (A.Finished 4 (s .reads))) t y o
 
--- "fill the table buffer; each such step gives go, and length 0 takes one step without a byte": that step finds nothing missing and goes on to the
--- entries; of any other length the step that takes the last byte does
+-- "fill the table buffer; each such step gives go, and length 0 takes one step without a byte". The step that takes the last byte, or that one of length 0, gives
+-- go and comes to between; the first region is opened in the step after it, which takes nothing
 unfoldable pub tableOf : Session → Filling → List ℕ → List ℕ → List ℕ → List ℕ → Outcome
 tableOf s x d t y o =
     let n = min (x .declared - x .filled) (length d) in

@@ -1,6 +1,6 @@
 -- 18. Document 01, Refusals, "Step, session and buffers untouched": "18 the reply buffer during a response (its finishing step too), or the table buffer
 -- during table, regions and between them, shorter than the declared length, or a session count above its limit". Each phase has its own counts; the
--- memory reads are judged in all. f is the width of an entry's numbers.
+-- memory reads are judged in all. f is the width of an entry's numbers: 8 in the step.
 use Prim.Native.Nat.{ℕ, _+_, _^_}
 use mathlib.Core.Bool.{Bool, false, not, _&&_, _||_}
 use mathlib.Core.List.{List}
@@ -30,11 +30,12 @@ regionLimit f k x t =
     ltb (length t) k || leb (entriesIn f k) (x .entry) || ltb (x .len) (x .done + x .outstanding)
     || (not (eqb (x .done + x .outstanding) 0) && ltb (256 ^ f) (x .base + x .len))
 
--- "memory reads 2^63 + 1": one for the table, and 1,024 regions (65,536 / 64) of 2^53 chunks each: 2^64 bytes by 2,048, twice the chunks that 4,096 a read
--- make
+-- "memory reads 2^63 + 1", before a step: one for the table, and 1,024 regions (65,536 / 64) of 2^53 chunks each, which is 2^64 bytes by 2,048: 01's bound, which
+-- leaves room for chunks of half of 4,096
 abbrev pub readsLimit : Session → Bool
 readsLimit s = ltb (2 ^ 63 + 1) (s .reads)
 
+-- by phase, each with the buffer that it fills or reads: the reply during a response and in its finishing step (Switched), the table in table, between and region
 abbrev pub phaseLimit : ℕ → List ℕ → Phase → List ℕ → List ℕ → Bool
 phaseLimit f w (P.Packet h) t y = heldLimit w h
 phaseLimit f w (P.Response x) t y = fillingLimit x y

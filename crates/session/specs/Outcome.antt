@@ -28,7 +28,7 @@ reading s r p = record { opening = s .opening; reads = r; window = s .window; ph
 abbrev pub holding : Session → List ℕ → Phase → Session
 holding s w p = record { opening = s .opening; reads = s .reads; window = w; phase = p }
 
--- an ended session keeps the length of the response that came, else 0
+-- a session that ends: all but the phase stays as it was before the step, the window too; the phase keeps the length of the response that came, else 0
 abbrev pub ended : Session → Session
 ended s = inPhase s (P.Ended 0)
 

@@ -17,11 +17,13 @@ use Rattle.session.specs.declared.Session.{Session}
 use Rattle.session.specs.declared.Answer.the-variants as A
 use Rattle.session.specs.Outcome.{reading, holding, ended, filling, Outcome, outcome, gives}
 
--- the window with bytes x behind the first h held ones; what passes 48 bytes is not kept, and what stood behind x stays: a session's every byte is told
+-- the window with bytes x behind the first h held ones; what passes 48 bytes is not kept, and what stood behind x stays: a session's every byte is told.
+-- 48 is a hello, the longest of the kinds' least packets (`least-fits` of packet/proofs/Laws)
 abbrev pub keep : List ℕ → ℕ → List ℕ → List ℕ
 keep w h x = take 48 (take h w ++ x ++ drop (h + length x) w)
 
--- what a verdict does; w is the window with the packet's bytes, n the bytes taken. A session that ends keeps the window that it had; where a memory debug
+-- what a verdict does; w is the window with the packet's bytes, n the bytes taken. A session that ends keeps the window from before
+-- the step (`ended`), without the bytes that this step took; where a memory debug
 -- came, holding sets the window and reading then the phase
 abbrev pub acted : Session → ℕ → List ℕ → List ℕ → List ℕ → List ℕ → Verdict → Outcome
 acted s n w t y o (W.Reply q) = outcome (gives (holding s w (P.Packet 0)) n (A.Send (sizeOf q))) t y (front q o)
@@ -40,8 +42,8 @@ acted s n w t y o (W.Refused why) = outcome (gives (ended s) n (A.Refused why)) 
 unfoldable pub wholeOf : Session → ℕ → List ℕ → List ℕ → List ℕ → List ℕ → List ℕ → Outcome
 wholeOf s n w set t y o = acted s n w t y o (verdictOf (s .opening) set (length t) (length y) (take (lengthField w) w))
 
--- the header is whole: size is its length field. 8 - h bytes end it where it is not good: h is less than 8 there, since a session that holds a bad header
--- is above its limits (18)
+-- the header is whole: size is its length field. Where it is bad, 5, before its command is looked at: 8 - h bytes end the header (h is less than 8 there,
+-- since a session that holds a bad header is above its limits, 18)
 unfoldable pub sizedOf : Session → ℕ → List ℕ → ℕ → List ℕ → List ℕ → List ℕ → List ℕ → Outcome
 sizedOf s h d size set t y o =
     pick (badLength size)

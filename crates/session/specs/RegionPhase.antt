@@ -1,5 +1,6 @@
 -- *Region*. Document 01, "Session": "an empty read first if one is due; with no chunk outstanding, close if all is done, else send MemRead64 for
--- min(4096, rest) at base + done and add one to the memory reads; else hand out min(outstanding, delivery)". f is the width of an entry's numbers.
+-- min(4096, rest) at base + done and add one to the memory reads; else hand out min(outstanding, delivery)". f is the width of an entry's numbers:
+-- 8 in the step.
 use Prim.Native.Nat.{ℕ, suc, _+_, _-_, _%_, _^_, min}
 use mathlib.Core.Bool.{Bool, false, _&&_}
 use mathlib.Core.List.{List}
@@ -30,6 +31,7 @@ dueAfter u outstanding done = onUsb u && eqb outstanding 0 && eqb (done % 512) 0
 
 -- ---- what the steps of a region count: the opening, the memory reads so far and the region; no session is in it
 
+-- the region x afterwards, m memory reads, n bytes taken of the delivery, the answer a
 abbrev pub countedTo : Region → ℕ → ℕ → Answer → Counted
 countedTo x m n a = record { region = x; reads = m; taken = n; answer = a }
 
@@ -44,10 +46,11 @@ emptied x = recounted x (x .done) (x .outstanding) false
 abbrev pub emptiedOf : ℕ → Region → Counted
 emptiedOf m x = countedTo (emptied x) m 0 A.EmptyRead
 
--- the next memory read, and the out buffer with it
+-- how much the next memory read asks for: a chunk, or the rest where that is less
 abbrev pub asksFor : Opening → Region → ℕ
 asksFor u x = min (chunkOf u) (x .len - x .done)
 
+-- the next memory read, and the out buffer with it
 abbrev pub askedOf : Opening → ℕ → Region → Counted
 askedOf u m x =
     let n = asksFor u x in
@@ -56,7 +59,7 @@ askedOf u m x =
 abbrev pub askedOut : Opening → Region → List ℕ → List ℕ
 askedOut u x o = front (Q.MemRead64 (x .base + x .done) (asksFor u x)) o
 
--- k bytes came: what is outstanding of them is handed out
+-- k bytes came: what is outstanding of them is handed out, and what came beyond it is not taken
 abbrev pub handedOf : Opening → ℕ → Region → ℕ → Counted
 handedOf u m x k =
     let n = min (x .outstanding) k in

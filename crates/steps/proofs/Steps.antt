@@ -5,14 +5,14 @@ use mathlib.Core.Bool.{Bool}
 use mathlib.Core.List.{List, [], _∷_, _++_, append-assoc, append-nil}
 use Prim.Native.Nat.{ℕ, _+_, _-_, _≤_}
 use native.Mathlib.Omega.{arith}
-use Rattle.steps.specs.Steps.{one, final, FairRun, outs, counted}
+use Rattle.steps.specs.Steps.{one, final, Throughout, outs, counted}
 
 -- Good is kept by a fair step, and rest is what is still to be reported
 module _ {S I R : Type 0} (next : S → I → S) (out : S → I → List R) (Fair : S → I → Type 0) (Good : S → Type 0) (rest : S → List R)
     (kept : (s : S) (i : I) → Good s → Fair s i → Good (next s i))
     (due : (s : S) (i : I) → Good s → Fair s i → rest s ≡ out s i ++ rest (next s i)) where
   -- what was due is what the list reports, then what is due after it
-  pub beginning : (is : List I) (s : S) → Good s → FairRun next Fair s is → rest s ≡ outs next out s is ++ rest (final next s is)
+  pub beginning : (is : List I) (s : S) → Good s → Throughout next Fair s is → rest s ≡ outs next out s is ++ rest (final next s is)
   beginning [] s g f = refl
   beginning (i ∷ is) s g f =
       due s i g (f .0) ∙ ap (λ (l : List R). out s i ++ l) (beginning is (next s i) (kept s i g (f .0)) (f .1))
@@ -22,14 +22,14 @@ module _ {S I R : Type 0} (next : S → I → S) (out : S → I → List R) (Fai
   module _ (counts : S → I → Bool) (mu : S → ℕ)
       (falls : (s : S) (i : I) → Good s → Fair s i → mu (next s i) ≤ mu s - one (counts s i))
       (empty : (s : S) → Good s → mu s ≡ 0 → rest s ≡ []) where
-    none-left : (is : List I) (s : S) → Good s → FairRun next Fair s is → mu s ≤ counted next counts s is → rest (final next s is) ≡ []
+    none-left : (is : List I) (s : S) → Good s → Throughout next Fair s is → mu s ≤ counted next counts s is → rest (final next s is) ≡ []
     none-left [] s g f h = empty s g (omega arith)
     none-left (i ∷ is) s g f h =
         let d : mu (next s i) ≤ mu s - one (counts s i) = falls s i g (f .0) in
         none-left is (next s i) (kept s i g (f .0)) (f .1) (omega arith)
 
     -- once as many steps counted as mu says, nothing is left
-    pub whole : (is : List I) (s : S) → Good s → FairRun next Fair s is → mu s ≤ counted next counts s is → rest s ≡ outs next out s is
+    pub whole : (is : List I) (s : S) → Good s → Throughout next Fair s is → mu s ≤ counted next counts s is → rest s ≡ outs next out s is
     whole is s g f h = beginning is s g f ∙ rw (none-left is s g f h, append-nil) refl
 
 -- Two machines whose states stay related, step by step, under the same list: a state that carries more for a proof than the machine's own, or the same
@@ -54,7 +54,7 @@ module _ {S S′ I : Type 0} (next : S → I → S) (next′ : S′ → I → S�
 
   -- what each step of the second machine's list meets, each of the first one's meets too
   pub fair-related : (Fair : S → I → Type 0) (Fair′ : S′ → I → Type 0) → ((s : S) (s′ : S′) (i : I) → R s s′ → Fair′ s′ i → Fair s i)
-      → (is : List I) (s : S) (s′ : S′) → R s s′ → FairRun next′ Fair′ s′ is → FairRun next Fair s is
+      → (is : List I) (s : S) (s′ : S′) → R s s′ → Throughout next′ Fair′ s′ is → Throughout next Fair s is
   fair-related Fair Fair′ same [] s s′ r f = tt
   fair-related Fair Fair′ same (i ∷ is) s s′ r f =
       (same s s′ i r (f .0), fair-related Fair Fair′ same is (next s i) (next′ s′ i) (kept s s′ i r) (f .1))

@@ -13,10 +13,10 @@ module _ {S I : Type 0} (next : S → I → S) where
   final s [] = s
   final s (i ∷ is) = final (next s i) is
 
-  -- every step of the list is fair
-  abbrev pub FairRun : (S → I → Type 0) → S → List I → Type 0
-  FairRun Fair s [] = Unit
-  FairRun Fair s (i ∷ is) = Fair s i × FairRun Fair (next s i) is
+  -- P holds of every step of the list: of the state before it and what it is lent
+  abbrev pub Throughout : (S → I → Type 0) → S → List I → Type 0
+  Throughout P s [] = Unit
+  Throughout P s (i ∷ is) = P s i × Throughout P (next s i) is
 
   -- what the list reports
   abbrev pub outs : {R : Type 0} → (S → I → List R) → S → List I → List R

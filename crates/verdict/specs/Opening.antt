@@ -6,7 +6,7 @@ use Rattle.verdict.specs.declared.QdlBackend.{QdlBackend}
 use Rattle.verdict.specs.declared.QdlBackend.the-variants as U
 use Rattle.verdict.specs.declared.Opening.{Opening}
 
--- the most that one memory read asks for
+-- the most that one memory read asks for: 4,096, whatever the opening. (It takes the opening so that a chunk given at opening would change this alone.)
 unfoldable pub chunkOf : Opening → ℕ
 chunkOf u = 4096
 

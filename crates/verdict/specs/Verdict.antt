@@ -61,29 +61,31 @@ room tsize = min 65536 tsize
 abbrev pub tableFor : ℕ → ℕ → ℕ → Verdict
 tableFor tsize a k = pick (ltb (room tsize) k) (W.Refused 17) (W.Debug a k)
 
--- by the kind; len is the length field, tsize and rsize the table and the reply buffer's sizes
+-- by the kind (`kindIn` of packet/specs/Packet: HelloReq is Hello, Eoi EndOfImage, DoneReq Done, Debug64Req MemDebug64, ReadMem64Req MemRead64); u is what the
+-- session was opened with, len the length field, tsize and rsize the table and the reply buffer's sizes. DoneResp and ExecuteResp may have any good length
+-- from their least packet's on: 12 and 16
 abbrev pub onBody : Opening → List ℕ → ℕ → ℕ → ℕ → SaharaPacketBody → Verdict
-onBody o set tsize rsize len (B.HelloReq b) = exactly len 48 (W.Reply (Q.HelloResp (o .mode)))
-onBody o set tsize rsize len (B.HelloResp b) = W.Refused 10
-onBody o set tsize rsize len (B.ReadReq b) = exactly len 20 (imageFor (rangeUnjudged set (b .image) (b .offset) (b .len)))
-onBody o set tsize rsize len (B.Eoi b) = exactly len 16 (endFor (b .status))
-onBody o set tsize rsize len B.DoneReq = W.Refused 10
-onBody o set tsize rsize len (B.DoneResp b) = doneFor set (b .status)
-onBody o set tsize rsize len B.ResetResp = exactly len 8 (W.Finish 2)
-onBody o set tsize rsize len B.CommandReady = exactly len 8 (executeFor (o .command))
-onBody o set tsize rsize len (B.ExecResp b) = responseFor rsize (b .command) (b .len)
-onBody o set tsize rsize len (B.ExecData b) = W.Refused 10
-onBody o set tsize rsize len (B.Debug64Req b) = exactly len 24 (tableFor tsize (b .addr) (b .len))
-onBody o set tsize rsize len (B.ReadMem64Req b) = W.Refused 10
-onBody o set tsize rsize len (B.ReadData64Req b) = exactly len 32 (imageFor (rangeUnjudged set (b .image) (b .offset) (b .len)))
+onBody u set tsize rsize len (B.HelloReq b) = exactly len 48 (W.Reply (Q.HelloResp (u .mode)))
+onBody u set tsize rsize len (B.HelloResp b) = W.Refused 10
+onBody u set tsize rsize len (B.ReadReq b) = exactly len 20 (imageFor (rangeUnjudged set (b .image) (b .offset) (b .len)))
+onBody u set tsize rsize len (B.Eoi b) = exactly len 16 (endFor (b .status))
+onBody u set tsize rsize len B.DoneReq = W.Refused 10
+onBody u set tsize rsize len (B.DoneResp b) = doneFor set (b .status)
+onBody u set tsize rsize len B.ResetResp = exactly len 8 (W.Finish 2)
+onBody u set tsize rsize len B.CommandReady = exactly len 8 (executeFor (u .command))
+onBody u set tsize rsize len (B.ExecResp b) = responseFor rsize (b .command) (b .len)
+onBody u set tsize rsize len (B.ExecData b) = W.Refused 10
+onBody u set tsize rsize len (B.Debug64Req b) = exactly len 24 (tableFor tsize (b .addr) (b .len))
+onBody u set tsize rsize len (B.ReadMem64Req b) = W.Refused 10
+onBody u set tsize rsize len (B.ReadData64Req b) = exactly len 32 (imageFor (rangeUnjudged set (b .image) (b .offset) (b .len)))
 
 abbrev pub onDecoded : Opening → List ℕ → ℕ → ℕ → Decoded → Verdict
-onDecoded o set tsize rsize (D.Is p) = onBody o set tsize rsize (p .len) (p .body)
-onDecoded o set tsize rsize (D.Refused why) = W.Refused why
+onDecoded u set tsize rsize (D.Is p) = onBody u set tsize rsize (p .len) (p .body)
+onDecoded u set tsize rsize (D.Refused why) = W.Refused why
 
 -- the verdict on the packet whose bytes are p
 unfoldable pub verdictOf : Opening → List ℕ → ℕ → ℕ → List ℕ → Verdict
-verdictOf o set tsize rsize p = onDecoded o set tsize rsize (decodeOf p)
+verdictOf u set tsize rsize p = onDecoded u set tsize rsize (decodeOf p)
 
 -- what a verdict tells, by 01's list of answers: send with the packet's command and values, and beside these what the packet brings with it (the
 -- length of the response to come, "memory reads becoming 1"); image; go; finished with its number; refused

@@ -1,6 +1,4 @@
 // The host for C and Rust. A slice crosses as a pointer and a length, a struct by value, an array behind a reference as a pointer.
-mod place; // place.rt: a step of a session in place
-
 use build::sahara_reset;
 use bundle::check_images;
 use bundle::check_names;
@@ -8,8 +6,7 @@ use entry::entry_at;
 use image::ImageId;
 use image::image_range;
 use packet::sahara_parse_packet;
-use place::raw_at;
-use place::step_by_phase;
+use raw::RawPlaced;
 use raw::RawSession;
 use raw::RawStepped;
 use raw_packet::RawPacket;
@@ -23,10 +20,11 @@ ghost use Rattle.image.specs.Image.{rangeOf};
 ghost use Rattle.entry.specs.Entry.{entryAt};
 ghost use Rattle.selection.specs.Selection.{nextOf};
 ghost use Rattle.packet.specs.Packet.{decodeOf};
-ghost use Rattle.raw.specs.Raw.{isSession, openedRaw};
+ghost use Rattle.raw.specs.Raw.{isSession, openedRaw, steppedAt, toldIn};
 ghost use Rattle.raw_packet.specs.RawPacket.{rawPacket};
 ghost use Rattle.raw_records.specs.Records.{rawEntry, rawRange, checkedNumber};
-ghost use Rattle.worgesli.specs.Worgesli.{rawOutcome, stepRaw, closedRaw, wantedRaw, resetOutcome, resetRaw};
+ghost use Rattle.raw_step.specs.RawStep.{rawOutcome, stepRaw, rawAt, waitsAt, closedRaw, wantedRaw};
+ghost use Rattle.worgesli.specs.Worgesli.{resetOutcome, resetRaw};
 
 // A session opened with a mode, a command or none, and a backend; no session where a number names none.
 #[no_mangle]
@@ -62,7 +60,7 @@ pub extern "C" fn worgesli_step(
         s.due,
     ];
     let mut window = s.window;
-    let told = step_by_phase(
+    let told = raw_step::step(
         &mut head,
         &mut numbers,
         &mut window,
@@ -73,7 +71,39 @@ pub extern "C" fn worgesli_step(
         reply,
         out,
     );
-    raw::stepped_at(raw_at(&head, &numbers, &window), told)
+    raw::stepped_at(raw_step::raw_at(&head, &numbers, &window), told)
+}
+
+// As worgesli_step, with the session in place: mode, command, backend and phase; reads, count, at, base, len, done, outstanding and due; the window.
+#[no_mangle]
+pub extern "C" fn worgesli_step_in_place(
+    head: &mut [u32; 4],
+    numbers: &mut [u64; 8],
+    window: &mut [u8; 48],
+    delivery: &[u8],
+    set: &[u8],
+    names: &[u8],
+    table: &mut [u8],
+    reply: &mut [u8],
+    out: &mut [u8],
+) -> RawPlaced
+    ensures { λ r. ⌜ (rawOutcome (steppedAt (rawAt (now (head .exit)) (now (numbers .exit)) (now (window .exit))) (toldIn r))
+        (now (table .exit)) (now (reply .exit)) (now (out .exit))
+        ≡ stepRaw (rawAt (now (head .entry)) (now (numbers .entry)) (now (window .entry)))
+        (now (delivery .entry)) (now (set .entry)) (now (names .entry)) (now (table .entry)) (now (reply .entry)) (now (out .entry)))
+        × (r .waits ≡ waitsAt (now (numbers .exit))) ⌝ }
+{
+    raw_place::step_in_place(
+        head,
+        numbers,
+        window,
+        delivery,
+        set,
+        names,
+        table,
+        reply,
+        out,
+    )
 }
 
 // The channel was closed.
@@ -101,10 +131,19 @@ pub extern "C" fn worgesli_is_session(s: RawSession) -> bool
 pub extern "C" fn worgesli_wanted(s: RawSession) -> usize
     ensures { λ r. ⌜ r ≡ wantedRaw s ⌝ }
 {
-    if !raw::is_session(s) {
-        return 0;
-    }
-    host::wanted(raw::session_of(s))
+    raw_place::wanted(s)
+}
+
+// As worgesli_wanted, of a session in place.
+#[no_mangle]
+pub extern "C" fn worgesli_wanted_in_place(
+    head: &[u32; 4],
+    numbers: &[u64; 8],
+    window: &[u8; 48],
+) -> usize
+    ensures { λ r. ⌜ r ≡ wantedRaw (rawAt (now (head .entry)) (now (numbers .entry)) (now (window .entry))) ⌝ }
+{
+    raw_place::wanted_in_place(head, numbers, window)
 }
 
 #[no_mangle]

@@ -4,7 +4,7 @@ use borrow.Author.Tests.{not-true, not-false}
 use Rattle.raw.specs.Raw.{rawStepped}
 use Rattle.session.specs.declared.Session.{Session}
 use Rattle.session.specs.Step.{closedOf}
-use Rattle.worgesli.proofs.Laws.{closed-no, closed-is}
+use Rattle.raw_step.proofs.Laws.{closed-no, closed-is}
 use borrow.Author.Needs.{needs}
 use Rattle.worgesli.proofs.worgesli_closed.Statement.{statement}
 use Rattle.worgesli.proofs.worgesli_closed.Tie as tie

@@ -1,15 +1,15 @@
--- `worgesli_step` meets its contract: the session's parts, lent to `step_by_phase`, are the session. Assumes nothing.
+-- `worgesli_step` meets its contract: the session's parts, lent to `raw_step::step`, are the session. Assumes nothing.
 use mathlib.Core.Path.{ap, _∙_}
 use Rattle.raw.specs.declared.RawSession.{RawSession}
 use Rattle.raw.specs.declared.RawStepped.{RawStepped}
 use Rattle.raw.specs.Raw.{steppedAt}
-use Rattle.worgesli.specs.Worgesli.{rawOutcome}
+use Rattle.raw_step.specs.RawStep.{rawOutcome}
 use borrow.Author.Needs.{needs}
 use Rattle.worgesli.proofs.worgesli_step.Statement.{statement}
 use Rattle.worgesli.proofs.worgesli_step.Tie as tie
 
-step-by-phase-requires : tie.Need-step-by-phase-requires
-step-by-phase-requires c κs = tt
+step-requires : tie.Need-step-requires
+step-requires c κs = tt
 
 raw-at-requires : tie.Need-raw-at-requires
 raw-at-requires c κs = tt
@@ -28,7 +28,7 @@ same-length-3 c = search needs
 
 returns : tie.Need-returns
 returns c =
-    let s = c .before .before .before .before .before .before .before .before .before .before .before .step-by-phase in
+    let s = c .before .before .before .before .before .before .before .before .before .before .before .step in
     let l = s .last .1 .1 .1 .1 .1 .1 in
     ap (λ (z : RawStepped). rawOutcome z (l .0) (l .1 .0) (l .1 .1 .0))
     (c .stepped-at .ensures ∙ ap (λ (z : RawSession). steppedAt z (s .result)) (c .before .raw-at .ensures))
@@ -38,7 +38,7 @@ pub worgesli-step-spec : {M : Type 1} → statement M
 worgesli-step-spec =
     tie.close
     (tie.spec
-    step-by-phase-requires
+    step-requires
     raw-at-requires
     stepped-at-requires
     same-length

@@ -1,0 +1,19 @@
+-- `raw_place::count` meets its contract: each part is what the call gives. Assumes nothing.
+use borrow.Author.Needs.{needs}
+use Rattle.raw_place.proofs.count.Statement.{statement}
+use Rattle.raw_place.proofs.count.Tie as tie
+
+element-copy-out-count : tie.Need-element-copy-out-count
+element-copy-out-count c = search needs
+
+bit-requires : tie.Need-bit-requires
+bit-requires c κs = search needs
+
+told-requires : tie.Need-told-requires
+told-requires c κs = search needs
+
+returns : tie.Need-returns
+returns c = (c .told .ensures, simp (c .before .before .bit .ensures))
+
+pub count-spec : {M : Type 1} → statement M
+count-spec = tie.close (tie.spec element-copy-out-count bit-requires told-requires returns)

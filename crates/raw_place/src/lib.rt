@@ -1,0 +1,248 @@
+// A step of a session where it stands. Those that a region repeats, the empty read, bytes handed out and each memory read behind the first, are made on its
+// numbers, by the same function as a session's; all others are left to the step that reads the session and puts it back.
+use bundle::Checked;
+use bundle::check_images;
+use bundle::check_names;
+use raw::RawPlaced;
+use raw::RawSession;
+use raw::RawTold;
+use raw::bit;
+use raw::told;
+use region_phase::Advance;
+use region_phase::advance_region;
+use session::Answer;
+use session::Counted;
+use session::Region;
+ghost use mathlib.Core.Path.{_≡_};
+ghost use mathlib.Core.Bool.{true, false};
+ghost use Rattle.base.specs.Choice.{pick};
+ghost use Rattle.bundle.specs.Bundle.{wellFormed};
+ghost use Rattle.raw.specs.Raw.{toldOf, steppedAt, toldIn};
+ghost use Rattle.raw_step.specs.RawStep.{rawOutcome, stepRaw, rawAt, waitsAt, wantedRaw};
+ghost use Rattle.raw_place.specs.Place.{inRegion, readyAt, regionAt, countedAt};
+
+// A session in place: head has its mode, command, backend and phase; numbers its memory reads, count, place, base, length, bytes done and outstanding, and
+// whether an empty read is due.
+const MODE: usize = 0;
+
+const COMMAND: usize = 1;
+
+const BACKEND: usize = 2;
+
+const PHASE: usize = 3;
+
+const READS: usize = 0;
+
+const COUNT: usize = 1;
+
+const AT: usize = 2;
+
+const BASE: usize = 3;
+
+const LEN: usize = 4;
+
+const DONE: usize = 5;
+
+const OUTSTANDING: usize = 6;
+
+const DUE: usize = 7;
+
+// The number of the phase in a region.
+const REGION: u32 = 5;
+
+// The numbers of a region's step, and what is told.
+fn count(numbers: &mut [u64; 8], c: Counted) -> RawTold
+    ensures { λ r. ⌜ (r ≡ toldOf (c .taken) (c .answer)) × (now (numbers .exit) ≡ countedAt (now (numbers .entry)) c) ⌝ }
+{
+    let x = c.region;
+    let answer = c.answer;
+    let count = numbers[COUNT];
+    *numbers = [
+        c.reads,
+        count,
+        x.entry as u64,
+        x.base,
+        x.len,
+        x.done,
+        x.outstanding,
+        bit(x.due),
+    ];
+    told(c.taken, answer)
+}
+
+// The numbers of a session in a region.
+fn in_region(head: &[u32; 4], numbers: &[u64; 8]) -> bool
+    ensures { λ r. ⌜ r ≡ inRegion (now (head .entry)) (now (numbers .entry)) ⌝ }
+{
+    if head[PHASE] == REGION {
+        if numbers[DUE] < 2 {
+            return raw::is_opening(head[MODE], head[COMMAND], head[BACKEND]);
+        }
+    }
+    false
+}
+
+// The region that the numbers tell.
+fn region_at(numbers: &[u64; 8]) -> Region
+    ensures { λ r. ⌜ r ≡ regionAt (now (numbers .entry)) ⌝ }
+{
+    Region {
+        entry: numbers[AT] as usize,
+        base: numbers[BASE],
+        len: numbers[LEN],
+        done: numbers[DONE],
+        outstanding: numbers[OUTSTANDING],
+        due: numbers[DUE] == 1,
+    }
+}
+
+// The image set and the names are well formed.
+fn formed(set: &[u8], names: &[u8]) -> bool
+    ensures { λ r. ⌜ r ≡ pick (wellFormed true (now (set .entry))) (wellFormed false (now (names .entry))) false ⌝ }
+{
+    let Checked::Good = check_images(set) else {
+        return false;
+    };
+    let Checked::Good = check_names(names) else {
+        return false;
+    };
+    true
+}
+
+// A session in a region, and none of 1 and 2 refuses its step.
+fn ready(head: &[u32; 4], numbers: &[u64; 8], set: &[u8], names: &[u8]) -> bool
+    ensures { λ r. ⌜ r ≡ readyAt (now (head .entry)) (now (numbers .entry)) (now (set .entry)) (now (names .entry)) ⌝ }
+{
+    if in_region(head, numbers) {
+        return formed(set, names);
+    }
+    false
+}
+
+// A step of a session in place. In a region, what neither begins nor closes it changes only its numbers.
+fn step_at(
+    head: &mut [u32; 4],
+    numbers: &mut [u64; 8],
+    window: &mut [u8; 48],
+    delivery: &[u8],
+    set: &[u8],
+    names: &[u8],
+    table: &mut [u8],
+    reply: &mut [u8],
+    out: &mut [u8],
+) -> RawTold
+    ensures { λ r. ⌜ rawOutcome (steppedAt (rawAt (now (head .exit)) (now (numbers .exit)) (now (window .exit))) r)
+        (now (table .exit)) (now (reply .exit)) (now (out .exit))
+        ≡ stepRaw (rawAt (now (head .entry)) (now (numbers .entry)) (now (window .entry)))
+        (now (delivery .entry)) (now (set .entry)) (now (names .entry)) (now (table .entry)) (now (reply .entry)) (now (out .entry)) ⌝ }
+{
+    if !ready(head, numbers, set, names) {
+        return raw_step::step(
+            head,
+            numbers,
+            window,
+            delivery,
+            set,
+            names,
+            table,
+            reply,
+            out,
+        );
+    }
+    let x = region_at(numbers);
+    let opening = raw::opening_of(head[MODE], head[COMMAND], head[BACKEND]);
+    let k = numbers[COUNT] as usize;
+    let a = advance_region(opening, numbers[READS], k, x, delivery.len(), table, out);
+    if let Advance::To(c) = a {
+        return count(numbers, c);
+    }
+    if let Advance::Waits = a {
+        return told(0, Answer::Go);
+    }
+    raw_step::phase_step(
+        head,
+        numbers,
+        window,
+        delivery,
+        set,
+        names,
+        table,
+        reply,
+        out,
+    )
+}
+
+// The bytes that are outstanding and wait for no empty read.
+fn waits_at(numbers: &[u64; 8]) -> u64
+    ensures { λ r. ⌜ r ≡ waitsAt (now (numbers .entry)) ⌝ }
+{
+    if numbers[DUE] == 1 {
+        0
+    } else {
+        numbers[OUTSTANDING]
+    }
+}
+
+// A step with the session in place: mode, command, backend and phase; reads, count, at, base, len, done, outstanding and due; the window.
+pub fn step_in_place(
+    head: &mut [u32; 4],
+    numbers: &mut [u64; 8],
+    window: &mut [u8; 48],
+    delivery: &[u8],
+    set: &[u8],
+    names: &[u8],
+    table: &mut [u8],
+    reply: &mut [u8],
+    out: &mut [u8],
+) -> RawPlaced
+    ensures { λ r. ⌜ (rawOutcome (steppedAt (rawAt (now (head .exit)) (now (numbers .exit)) (now (window .exit))) (toldIn r))
+        (now (table .exit)) (now (reply .exit)) (now (out .exit))
+        ≡ stepRaw (rawAt (now (head .entry)) (now (numbers .entry)) (now (window .entry)))
+        (now (delivery .entry)) (now (set .entry)) (now (names .entry)) (now (table .entry)) (now (reply .entry)) (now (out .entry)))
+        × (r .waits ≡ waitsAt (now (numbers .exit))) ⌝ }
+{
+    let t = step_at(
+        head,
+        numbers,
+        window,
+        delivery,
+        set,
+        names,
+        table,
+        reply,
+        out,
+    );
+    RawPlaced {
+        taken: t.taken,
+        first: t.first,
+        second: t.second,
+        answer: t.answer,
+        waits: waits_at(numbers),
+    }
+}
+
+// How many bytes the next step asks for: 0 where it needs none.
+pub fn wanted(s: RawSession) -> usize
+    ensures { λ r. ⌜ r ≡ wantedRaw s ⌝ }
+{
+    if !raw::is_session(s) {
+        return 0;
+    }
+    host::wanted(raw::session_of(s))
+}
+
+// The same of a session in place. In a region, where it is asked most, the numbers are at hand.
+pub fn wanted_in_place(head: &[u32; 4], numbers: &[u64; 8], window: &[u8; 48]) -> usize
+    ensures { λ r. ⌜ r ≡ wantedRaw (rawAt (now (head .entry)) (now (numbers .entry)) (now (window .entry))) ⌝ }
+{
+    if head[PHASE] == REGION {
+        if in_region(head, numbers) {
+            if numbers[DUE] == 1 {
+                return 0;
+            }
+            return numbers[OUTSTANDING] as usize;
+        }
+        return 0;
+    }
+    wanted(raw_step::raw_at(head, numbers, window))
+}
