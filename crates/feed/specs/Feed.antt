@@ -3,7 +3,7 @@
 use mathlib.Core.Bool.{Bool, not, _&&_}
 use lib.Dec.{ltb}
 use Rattle.session.specs.declared.Session.{Session}
-use Rattle.host.specs.Host.{needsBytes}
+use Rattle.waiting.specs.Wanted.{needsBytes}
 use Rattle.feed.specs.declared.Feed.{Feed}
 
 -- it is used up, and there may be more

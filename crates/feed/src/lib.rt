@@ -67,7 +67,7 @@ pub fn closes(f: Feed, s: Session) -> bool
     ensures { λ r. ⌜ r ≡ closesAt f s ⌝ }
 {
     if f.over {
-        return host::needs_bytes(s);
+        return waiting::needs_bytes(s);
     }
     false
 }

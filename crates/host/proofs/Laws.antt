@@ -3,20 +3,18 @@ use mathlib.Core.Path.{_≡_, refl}
 use mathlib.Core.Bool.{true, false, _||_}
 use mathlib.Core.List.{List}
 use Prim.Native.Nat.{ℕ}
-use borrow.Author.Tests.{eq-eqb, ne-eqb}
 use lib.Dec.{ltb}
 use lib.ListN.{length}
 use Rattle.base.specs.Choice.{pick}
 use Rattle.bundle.specs.Bundle.{wellFormed}
 use Rattle.session.specs.declared.Phase.{Phase}
 use Rattle.session.specs.declared.Phase.the-variants as P
-use Rattle.session.specs.declared.Region.{Region}
 use Rattle.session.specs.declared.Session.{Session}
 use Rattle.session.specs.declared.Answer.the-variants as A
 use Rattle.session.specs.Outcome.{ended, gives, isEnded, untouched}
 use Rattle.session.specs.Limits.{readsLimit, phaseLimit, limitOf}
 use Rattle.session.specs.Step.{onPhase, stepOf, closedOf}
-use Rattle.host.specs.Host.{phaseStep, regionWaits}
+use Rattle.host.specs.Host.{phaseStep}
 use Rattle.session.specs.Guard.{packetStep, responseStep, switchedStep, tableStep, betweenStep, regionStep}
 
 -- a session, a delivery, image set, names, table, reply and out buffers
@@ -50,17 +48,6 @@ module _ (s : Session) (d set names t y o : List ℕ) where
   pub step-phase : wellFormed true set ≡ true → wellFormed false names ≡ true → stepOf s d set names t y o ≡ phaseStep s d set names t y o (s .phase)
   unfolding stepOf limitOf
   step-phase e f = rw (e, f) (rest (s .phase))
-
--- ---- waiting for bytes
-
-pub waits-due : (x : Region) → x .due ≡ true → regionWaits x ≡ false
-waits-due x d = rw d refl
-
-pub waits-none : (x : Region) → x .due ≡ false → x .outstanding ≡ 0 → regionWaits x ≡ false
-waits-none x d e = simp (d, eq-eqb _ _ e)
-
-pub waits-some : (x : Region) → x .due ≡ false → (x .outstanding ≡ 0 → ⊥) → regionWaits x ≡ true
-waits-some x d n = simp (d, ne-eqb _ _ n)
 
 -- ---- the channel's end
 

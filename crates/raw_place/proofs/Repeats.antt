@@ -21,7 +21,8 @@ use Rattle.region_phase.specs.declared.Advance.{Advance}
 use Rattle.region_phase.specs.declared.Advance.the-variants as D
 use Rattle.region_phase.specs.Advance.{Advanced, advanced, advanceWithin, advanceOf, onAdvance}
 use Rattle.region_phase.proofs.Laws.{advance-is}
-use Rattle.host.specs.Host.{phaseStep, regionWants, wantedIn}
+use Rattle.host.specs.Host.{phaseStep}
+use Rattle.waiting.specs.Wanted.{regionWants, wantedIn}
 use Rattle.raw.specs.declared.RawSession.{RawSession}
 use Rattle.raw.specs.Raw.{openingOf, isOpening, regionIn, phaseOf, noRegion, isPhase, rawOf, sessionOf, isSession, toldOf, steppedAt, rawStepped}
 use Rattle.raw.proofs.Laws.{raw-back}

@@ -228,7 +228,7 @@ pub fn wanted(s: RawSession) -> usize
     if !raw::is_session(s) {
         return 0;
     }
-    host::wanted(raw::session_of(s))
+    waiting::wanted(raw::session_of(s))
 }
 
 // The same of a session in place. In a region, where it is asked most, the numbers are at hand.

@@ -10,7 +10,8 @@ use Rattle.base.specs.Choice.{pick}
 use Rattle.bundle.specs.Bundle.{wellFormed}
 use Rattle.session.specs.Outcome.{Outcome}
 use Rattle.session.specs.Step.{stepOf, closedOf}
-use Rattle.host.specs.Host.{phaseStep, wantedOf}
+use Rattle.host.specs.Host.{phaseStep}
+use Rattle.waiting.specs.Wanted.{wantedOf}
 use Rattle.raw.specs.declared.RawSession.{RawSession}
 use Rattle.raw.specs.declared.RawStepped.{RawStepped}
 use Rattle.raw.specs.Raw.{phaseOf, sessionOf, isSession, rawStepped, refusedRaw}

@@ -24,7 +24,7 @@ use Rattle.session.specs.Outcome.{outcome, gives, inPhase, openedWith, filling,
 use Rattle.session.specs.PacketPhase.{acted, sizedOf, packetOf}
 use Rattle.session.specs.Limits.{limitOf}
 use Rattle.session.specs.Step.{stepOf}
-use Rattle.host.specs.Host.{needsBytes, wantedOf}
+use Rattle.waiting.specs.Wanted.{needsBytes, wantedOf}
 use Rattle.waiting.specs.Waiting.{InOrder}
 use Rattle.waiting.specs.Window.{packetOver, StepLent}
 use Rattle.waiting.proofs.Waiting.{waits, waits-only, wanted-needs, takes-all}

@@ -1,3 +1,4 @@
+pub mod Region
 pub mod Waiting
 pub mod Packet
 pub mod Held

@@ -38,7 +38,7 @@ use Rattle.session.specs.BetweenPhase.{entriesIn, openOf, betweenOf}
 use Rattle.session.specs.RegionPhase.{nextChunk, begunOf, askOf, handOf, regionOf}
 use Rattle.session.specs.Limits.{heldLimit, readsLimit, phaseLimit, limitOf}
 use Rattle.session.specs.Step.{onPhase, stepOf}
-use Rattle.host.specs.Host.{regionWaits, needsBytes, wantedIn, wantedOf}
+use Rattle.waiting.specs.Wanted.{regionWaits, needsBytes, wantedIn, wantedOf}
 use Rattle.limits.proofs.Laws.{same-ltb}
 use Rattle.waiting.specs.Waiting.{InOrder}
 use Rattle.field.proofs.Laws.{le-same}

@@ -1,2 +1,3 @@
+pub mod Wanted
 pub mod Waiting
 pub mod Window

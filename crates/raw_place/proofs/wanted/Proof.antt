@@ -1,7 +1,7 @@
 -- `raw_place::wanted` meets its contract: by whether the numbers are a session's. Assumes nothing.
 use mathlib.Core.Path.{sym, ap, _∙_}
 use borrow.Author.Tests.{not-true, not-false}
-use Rattle.host.specs.Host.{wantedOf}
+use Rattle.waiting.specs.Wanted.{wantedOf}
 use Rattle.raw_step.proofs.Laws.{wanted-no, wanted-is}
 use borrow.Author.Needs.{needs}
 use Rattle.raw_place.proofs.wanted.Statement.{statement}

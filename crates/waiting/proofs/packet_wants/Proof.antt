@@ -1,8 +1,8 @@
--- `host::packet_wants` meets its contract: by whether the header is held. Assumes nothing.
+-- `waiting::packet_wants` meets its contract: by whether the header is held. Assumes nothing.
 use borrow.Author.Tests.{lt-ltb, le-ltb}
 use borrow.Author.Needs.{needs}
-use Rattle.host.proofs.packet_wants.Statement.{statement}
-use Rattle.host.proofs.packet_wants.Tie as tie
+use Rattle.waiting.proofs.packet_wants.Statement.{statement}
+use Rattle.waiting.proofs.packet_wants.Tie as tie
 
 sub-result : tie.Need-sub-result
 sub-result c = search needs

@@ -1,9 +1,9 @@
--- `host::needs_bytes` meets its contract: by the phase. Assumes nothing.
+-- `waiting::needs_bytes` meets its contract: by the phase. Assumes nothing.
 use mathlib.Core.Path.{sym, ap, _∙_}
-use Rattle.host.specs.Host.{needsBytes}
+use Rattle.waiting.specs.Wanted.{needsBytes}
 use borrow.Author.Needs.{needs}
-use Rattle.host.proofs.needs_bytes.Statement.{statement}
-use Rattle.host.proofs.needs_bytes.Tie as tie
+use Rattle.waiting.proofs.needs_bytes.Statement.{statement}
+use Rattle.waiting.proofs.needs_bytes.Tie as tie
 
 enum-told : tie.Need-enum-told
 enum-told c = c .match .keys1
@@ -23,8 +23,8 @@ enum-told-3 c = c .match .keys5
 enum-known-p-3 : tie.Need-enum-known-p-3
 enum-known-p-3 c = c .match .keys6
 
-waiting-requires : tie.Need-waiting-requires
-waiting-requires c κs = tt
+region-waits-requires : tie.Need-region-waits-requires
+region-waits-requires c κs = tt
 
 enum-told-4 : tie.Need-enum-told-4
 enum-told-4 c = c .match .keys7
@@ -64,7 +64,7 @@ needs-bytes-spec =
     enum-known-p-2
     enum-told-3
     enum-known-p-3
-    waiting-requires
+    region-waits-requires
     enum-told-4
     returns
     returns-2

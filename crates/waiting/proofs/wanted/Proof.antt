@@ -1,9 +1,9 @@
--- `host::wanted` meets its contract: by the phase. Assumes nothing.
+-- `waiting::wanted` meets its contract: by the phase. Assumes nothing.
 use mathlib.Core.Path.{sym, ap, _∙_}
-use Rattle.host.specs.Host.{wantedIn}
+use Rattle.waiting.specs.Wanted.{wantedIn}
 use borrow.Author.Needs.{needs}
-use Rattle.host.proofs.wanted.Statement.{statement}
-use Rattle.host.proofs.wanted.Tie as tie
+use Rattle.waiting.proofs.wanted.Statement.{statement}
+use Rattle.waiting.proofs.wanted.Tie as tie
 
 enum-known-p : tie.Need-enum-known-p
 enum-known-p c = c .match .keys1
