@@ -70,6 +70,7 @@ static worgesli_stepped step(worgesli_session s, const uint8_t *delivery, size_t
         worgesli_step(s, delivery, n, none, sizeof none, none, sizeof none, table, sizeof table, reply, sizeof reply, out, sizeof out);
     EXPECT(same(p, r.session) && a.taken == r.taken && a.first == r.first && a.second == r.second && a.answer == r.answer);
     EXPECT(memcmp(t, table, sizeof t) == 0 && memcmp(y, reply, sizeof y) == 0 && memcmp(o, out, sizeof o) == 0);
+    EXPECT(a.waits == (p.phase == WORGESLI_REGION ? worgesli_wanted(p) : 0));
     return r;
 }
 
@@ -189,6 +190,12 @@ static void no_sessions(void)
     EXPECT(worgesli_is_session(s));
     EXPECT(wanted(s) == 0);
     s.due = 0, EXPECT(wanted(s) == 1);
+    /* it waits for the one byte, and says so; with it, for none */
+    fill();
+    worgesli_stepped r = step(s, NULL, 0);
+    EXPECT(r.answer == WORGESLI_GO && same(r.session, s));
+    r = step(s, none, 1);
+    EXPECT(r.answer == WORGESLI_BYTES && r.first == 1 && r.session.done == 2 && wanted(r.session) == 0);
     s.due = 2, no_session(s);
     memset(&s, 0xff, sizeof s), no_session(s);
 }

@@ -22,9 +22,8 @@ use Rattle.session.specs.Outcome.{reading, holding, ended, filling, Outc
 abbrev pub keep : List ℕ → ℕ → List ℕ → List ℕ
 keep w h x = take 48 (take h w ++ x ++ drop (h + length x) w)
 
--- what a verdict does; w is the window with the packet's bytes, n the bytes taken. A session that ends keeps the window from before
--- the step (`ended`), without the bytes that this step took; where a memory debug
--- came, holding sets the window and reading then the phase
+-- what a verdict does; w is the window with the packet's bytes, n the bytes taken. A session that ends keeps the window from
+-- before the step (`ended`), without the bytes that this step took; where a memory debug came, holding sets the window and reading then the phase
 abbrev pub acted : Session → ℕ → List ℕ → List ℕ → List ℕ → List ℕ → Verdict → Outcome
 acted s n w t y o (W.Reply q) = outcome (gives (holding s w (P.Packet 0)) n (A.Send (sizeOf q))) t y (front q o)
 acted s n w t y o (W.Image x k) = outcome (gives (holding s w (P.Packet 0)) n (A.Image x k)) t y o

@@ -1,4 +1,4 @@
--- What crosses to C and is told by no other crate: the reset packet, built alone. Document 01, Records, "Built": "Reset".
+-- What crosses to C and is told by no other crate: the reset packet, built alone. Document 01, "Building".
 use Prim.Native.Nat.{ℕ}
 use mathlib.Core.List.{List}
 use Rattle.build.specs.declared.Request.the-variants as Q
