@@ -26,6 +26,22 @@ ghost use Rattle.raw_records.specs.Records.{rawEntry, rawRange, checkedNumber};
 ghost use Rattle.raw_step.specs.RawStep.{rawOutcome, stepRaw, rawAt, waitsAt, closedRaw, wantedRaw};
 ghost use Rattle.worgesli.specs.Worgesli.{resetOutcome, resetRaw};
 
+// The number of this interface: another where a struct or a function of it is another.
+#[no_mangle]
+pub extern "C" fn worgesli_abi() -> u32
+    ensures { λ r. ⌜ r ≡ 1 ⌝ }
+{
+    1
+}
+
+// The same under a name with the number in it, for a caller that must not link with another interface.
+#[no_mangle]
+pub extern "C" fn worgesli_abi_1() -> u32
+    ensures { λ r. ⌜ r ≡ 1 ⌝ }
+{
+    worgesli_abi()
+}
+
 // A session opened with a mode, a command or none, and a backend; no session where a number names none.
 #[no_mangle]
 pub extern "C" fn worgesli_open(mode: u32, command: u32, backend: u32) -> RawSession

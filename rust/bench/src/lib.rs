@@ -7,7 +7,7 @@ use std::fs::{File, OpenOptions};
 use std::hint::black_box;
 use std::io::{self, Read, Write};
 use std::time::{Duration, Instant};
-use worgesli::{sahara_run, Backend, Entry, Mode, Outcome, Sink};
+use worgesli::{sahara_run, Backend, Entry, Mode, Outcome, Sink, Unkept};
 
 /// What is fetched.
 #[derive(Clone, Debug)]
@@ -84,7 +84,7 @@ impl Sink for Kept<'_> {
             Keep::Null(file) => file.write(bytes),
         }
     }
-    fn close(&mut self, _: usize) -> io::Result<()> {
+    fn close(&mut self, _: usize) -> Result<(), Unkept> {
         Ok(())
     }
 }

@@ -1,6 +1,6 @@
 //! The driver: runs a session over a channel.
 use crate::session::{answer, OUT, TABLE};
-use crate::{entry_at, raw, Answer, Backend, Command, ImageSet, Mode, NameList, Refusal, Session, Sink};
+use crate::{entry_at, raw, Answer, Backend, Command, ImageSet, Mode, NameList, Refusal, Session, Sink, Unkept};
 use std::fmt;
 use std::io::{self, ErrorKind, Read, Write};
 
@@ -381,9 +381,12 @@ impl Driver {
     }
 
     fn close<S: Sink + ?Sized>(&mut self, sink: &mut S, place: usize) -> Result<(), Error> {
-        match again(|| sink.close(place)) {
-            Err(e) => self.stop(Owed::Close(place), Error::Sink(e)),
-            Ok(()) => Ok(()),
+        loop {
+            match sink.close(place) {
+                Err(Unkept::Again(e)) if e.kind() == ErrorKind::Interrupted => {}
+                Err(Unkept::Again(e) | Unkept::Lost(e)) => return self.stop(Owed::Close(place), Error::Sink(e)),
+                Ok(()) => return Ok(()),
+            }
         }
     }
 

@@ -19,5 +19,5 @@ pub use driver::{sahara_run, Driver, Error, Outcome, Progress, REPLY};
 pub use numbers::{Answer, Backend, Command, Mode, Phase, Refusal};
 pub use packet::{parse_packet, reset, Body, Packet, Unk};
 pub use session::{Session, OUT, TABLE};
-pub use sink::{Count, Folder, Sink};
+pub use sink::{Count, Folder, Sink, Unkept};
 pub use table::{entry_at, next_selected, utf8, Entry, ENTRY};

@@ -4,14 +4,37 @@ use std::fs::{self, File, OpenOptions};
 use std::io::{self, ErrorKind, Write};
 use std::path::{Path, PathBuf};
 
-/// Takes regions, one at a time: an open, its bytes in order, a close. What failed is asked anew when the run goes on.
+/// Takes regions, one at a time: an open, its bytes in order, a close. What failed, or panicked, is asked anew when the run goes on.
 pub trait Sink {
-    /// A region begins: its place in the table, from 0, and its entry.
+    /// A region begins: its place in the table, from 0, and its entry. It may be one that was [lost](Unkept::Lost) before.
     fn open(&mut self, place: usize, entry: &Entry) -> io::Result<()>;
     /// Bytes of the open region. Gives how many were taken, as `Write::write` does: the rest comes again.
     fn bytes(&mut self, bytes: &[u8]) -> io::Result<usize>;
-    /// The region is whole.
-    fn close(&mut self, place: usize) -> io::Result<()>;
+    /// All bytes of the region were taken.
+    fn close(&mut self, place: usize) -> Result<(), Unkept>;
+    /// A region goes on that an earlier process opened and of which it took `taken` bytes.
+    fn reopen(&mut self, _place: usize, _entry: &Entry, _taken: u64) -> Result<(), Unkept> {
+        Err(Unkept::Again(io::Error::new(ErrorKind::Unsupported, "this sink cannot go on with a region of an earlier process")))
+    }
+    /// Short deliveries are gathered until there are so many bytes, or the region or the call ends; 0: each is handed over as it comes.
+    fn gathers(&self) -> usize {
+        0
+    }
+}
+
+/// Why a region could not be closed or reopened.
+#[derive(Debug)]
+pub enum Unkept {
+    /// nothing is lost, and the call is made anew when the run goes on
+    Again(io::Error),
+    /// what was taken of the region cannot be relied on: it is fetched again from its beginning, with an `open` of its own
+    Lost(io::Error),
+}
+
+impl From<io::Error> for Unkept {
+    fn from(e: io::Error) -> Unkept {
+        Unkept::Again(e)
+    }
 }
 
 impl<S: Sink + ?Sized> Sink for &mut S {
@@ -22,8 +45,14 @@ impl<S: Sink + ?Sized> Sink for &mut S {
     fn bytes(&mut self, bytes: &[u8]) -> io::Result<usize> {
         (**self).bytes(bytes)
     }
-    fn close(&mut self, place: usize) -> io::Result<()> {
+    fn close(&mut self, place: usize) -> Result<(), Unkept> {
         (**self).close(place)
+    }
+    fn reopen(&mut self, place: usize, entry: &Entry, taken: u64) -> Result<(), Unkept> {
+        (**self).reopen(place, entry, taken)
+    }
+    fn gathers(&self) -> usize {
+        (**self).gathers()
     }
 }
 
@@ -45,7 +74,7 @@ impl Sink for Count {
         self.bytes += bytes.len() as u64;
         Ok(bytes.len())
     }
-    fn close(&mut self, _: usize) -> io::Result<()> {
+    fn close(&mut self, _: usize) -> Result<(), Unkept> {
         self.closed += 1;
         Ok(())
     }
@@ -123,7 +152,7 @@ impl Sink for Folder {
         }
     }
 
-    fn close(&mut self, _: usize) -> io::Result<()> {
+    fn close(&mut self, _: usize) -> Result<(), Unkept> {
         if let Some(file) = &self.file {
             file.sync_all()?;
         }

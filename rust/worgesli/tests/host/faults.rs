@@ -2,7 +2,7 @@
 use crate::world::{world, Kept, Record, World};
 use device::{Device, Division, Faults, Memory, Region, Turn, Wire};
 use std::io::{self, ErrorKind, Read, Write};
-use worgesli::{sahara_run, Answer, Backend, Command, Count, Driver, Entry, Error, Mode, Outcome, Phase, Session, Sink};
+use worgesli::{sahara_run, Answer, Backend, Command, Count, Driver, Entry, Error, Mode, Outcome, Phase, Session, Sink, Unkept};
 
 const NO_IMAGES: &[Option<Vec<u8>>] = &[];
 const NO_NAMES: &[&str] = &[];
@@ -197,7 +197,7 @@ fn errors_of_the_sink() {
             let n = self.1.piece(bytes.len());
             self.0.bytes(&bytes[..n])
         }
-        fn close(&mut self, place: usize) -> io::Result<()> {
+        fn close(&mut self, place: usize) -> Result<(), Unkept> {
             self.fault()?;
             self.0.close(place)
         }
@@ -252,7 +252,7 @@ fn liars() {
         fn bytes(&mut self, _: &[u8]) -> io::Result<usize> {
             Ok(self.0)
         }
-        fn close(&mut self, _: usize) -> io::Result<()> {
+        fn close(&mut self, _: usize) -> Result<(), Unkept> {
             Ok(())
         }
     }

@@ -1,7 +1,7 @@
 //! Devices with memory at random, what a fetch from them must give, and a sink that keeps it.
 use device::{Memory, Region, Rng};
 use std::io;
-use worgesli::{Backend, Entry, Sink};
+use worgesli::{Backend, Entry, Sink, Unkept};
 
 /// A region as it came out: its place, its entry's filename, its bytes, and whether it was closed.
 #[derive(Clone, Debug, PartialEq, Eq)]
@@ -27,7 +27,7 @@ impl Sink for Record {
         last.bytes.extend_from_slice(bytes);
         Ok(bytes.len())
     }
-    fn close(&mut self, place: usize) -> io::Result<()> {
+    fn close(&mut self, place: usize) -> Result<(), Unkept> {
         let last = self.0.last_mut().unwrap();
         assert_eq!((last.place, last.closed), (place, false));
         last.closed = true;
