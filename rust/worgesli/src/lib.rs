@@ -7,7 +7,9 @@
 
 mod bundle;
 mod driver;
+mod error;
 mod numbers;
+mod options;
 mod packet;
 pub mod raw;
 mod session;
@@ -15,8 +17,10 @@ mod sink;
 mod table;
 
 pub use bundle::{ImageSet, NameList, SLOTS};
-pub use driver::{sahara_run, Driver, Error, Outcome, Progress, REPLY};
+pub use driver::{sahara_run, Driver, Outcome, Progress, REPLY};
+pub use error::Error;
 pub use numbers::{Answer, Backend, Command, Mode, Phase, Refusal};
+pub use options::Options;
 pub use packet::{parse_packet, reset, Body, Packet, Unk};
 pub use session::{Session, OUT, TABLE};
 pub use sink::{Count, Folder, Sink, Unkept};

@@ -1,7 +1,7 @@
 //! Devices with memory at random, what a fetch from them must give, and a sink that keeps it.
 use device::{Memory, Region, Rng};
 use std::io;
-use worgesli::{Backend, Entry, Sink, Unkept};
+use worgesli::{Backend, Entry, Mode, Options, Sink, Unkept};
 
 /// A region as it came out: its place, its entry's filename, its bytes, and whether it was closed.
 #[derive(Clone, Debug, PartialEq, Eq)]
@@ -78,6 +78,11 @@ pub fn world(seed: u64) -> World {
 }
 
 impl World {
+    /// A dump of the regions that are asked for.
+    pub fn options(&self) -> Options {
+        Options::new(self.backend, Mode::MemoryDebug).names(&self.names)
+    }
+
     /// Places of the regions to be dumped, in the table's order.
     pub fn selected(&self) -> Vec<usize> {
         let named = |r: &Region| {
