@@ -76,6 +76,12 @@ impl Session {
         }
     }
 
+    /// Whether it was opened with these.
+    pub(crate) fn opened_as(&self, mode: Mode, command: Option<Command>, backend: Backend) -> bool {
+        let opened = Session::open(mode, command, backend).0;
+        (self.0.mode, self.0.command, self.0.backend) == (opened.mode, opened.command, opened.backend)
+    }
+
     /// The session behind a region's close, put back to where that region was opened. None where the numbers are no session's.
     pub(crate) fn region_begun(&self, place: usize, entry: &Entry) -> Option<Session> {
         let (phase, base, len) = (Phase::Region as u32, entry.base, entry.len);

@@ -33,6 +33,11 @@ impl Sink for Record {
         last.closed = true;
         Ok(())
     }
+    fn reopen(&mut self, place: usize, entry: &Entry, taken: u64) -> Result<(), Unkept> {
+        let last = self.0.last().unwrap();
+        assert_eq!((last.place, last.closed, last.filename, last.bytes.len() as u64), (place, false, entry.filename, taken));
+        Ok(())
+    }
 }
 
 /// A table, and the names that a host asks for.
