@@ -3,7 +3,7 @@
 //! What a step took or asked for is written down before anything that is not ours is called (channel, sink, progress), and crossed out
 //! behind it: after an error or a panic there, the next call goes on with what is still owed.
 use crate::session::{answer, OUT, TABLE};
-use crate::{entry_at, raw, Answer, Entry, Error, ImageSet, NameList, Options, Refusal, Session, Sink, Unkept};
+use crate::{entry_at, raw, Answer, Entry, Error, ImageSet, NameList, Options, Phase, Refusal, Session, Sink, Unkept};
 use std::fmt;
 use std::io::{self, ErrorKind, Read, Write};
 
@@ -86,26 +86,8 @@ pub struct Driver {
     pub(crate) region: Region,
     /// the place in the table of the region that was opened last
     pub(crate) place: usize,
-    /// bytes of it that the sink took
-    pub(crate) handed: u64,
     /// reads, writes and flushes of the channel that succeeded
     moves: u64,
-}
-
-/// What a turn is told by the one before it.
-struct Next {
-    /// the step may need bytes; where it does and is lent none, it only says go
-    hungry: bool,
-    /// in a region, how many: the step before told it
-    waits: usize,
-    /// bytes that the sink gathers
-    gathers: usize,
-}
-
-impl Next {
-    fn new<S: Sink + ?Sized>(sink: &S) -> Next {
-        Next { hungry: true, waits: 0, gathers: sink.gathers().min(INPUT) }
-    }
 }
 
 fn buffer(len: usize) -> Box<[u8]> {
@@ -129,7 +111,6 @@ impl Driver {
             owed: Owed::Nothing,
             region: Region::None,
             place: 0,
-            handed: 0,
             moves: 0,
         }
     }
@@ -159,8 +140,9 @@ impl Driver {
         let mut borne = 0;
         loop {
             let moves = self.moves;
-            let why = match self.go(channel, sink, &mut progress) {
-                Ok(end) => return Ok(end),
+            let why = match self.go::<false, C, S, P>(channel, sink, &mut progress) {
+                Ok(Some(end)) => return Ok(end),
+                Ok(None) => continue,
                 Err(why) => why,
             };
             self.hand_over_behind(&why, sink)?;
@@ -181,9 +163,8 @@ impl Driver {
         S: Sink + ?Sized,
         P: FnMut(Progress),
     {
-        let mut next = Next::new(sink);
-        let turn = self.settle(channel, sink).and_then(|()| self.turn(channel, sink, &mut progress, &mut next));
-        turn.or_else(|why| self.hand_over_behind(&why, sink).and(Err(why)))
+        let end = self.go::<true, C, S, P>(channel, sink, &mut progress);
+        end.or_else(|why| self.hand_over_behind(&why, sink).and(Err(why)))
     }
 
     /// Gives up: what was gathered is handed over, and the session is closed. Gives the refusal: 23, or 4 where it had ended.
@@ -196,63 +177,68 @@ impl Driver {
         }
     }
 
-    fn go<C, S, P>(&mut self, channel: &mut C, sink: &mut S, progress: &mut P) -> Result<Outcome, Error>
+    /// What is owed, then steps and what each asks for: one, or all to the end.
+    fn go<const ONE: bool, C, S, P>(&mut self, channel: &mut C, sink: &mut S, progress: &mut P) -> Result<Option<Outcome>, Error>
     where
         C: Read + Write + ?Sized,
         S: Sink + ?Sized,
         P: FnMut(Progress),
     {
         self.settle(channel, sink)?;
-        let mut next = Next::new(sink);
+        let gathers = sink.gathers().min(INPUT);
+        // whether the next step may need bytes. Where it does and is lent none, it only says go. In a region the step before told how many.
+        let (mut hungry, mut waits) = (true, 0);
         loop {
-            if let Some(end) = self.turn(channel, sink, progress, &mut next)? {
-                return Ok(end);
+            let wanted = match hungry && self.from == self.to {
+                true if waits > 0 => waits,
+                true => self.session.wanted(),
+                false => 0,
+            };
+            if wanted > 0 {
+                self.fill(channel, sink, wanted)?;
+            }
+            let told = self.step_lent();
+            (hungry, waits) = (true, told.waits as usize);
+            self.from += told.taken;
+            match answer(told.answer, told.first, told.second) {
+                Answer::Bytes(k) => {
+                    hungry = k < wanted;
+                    if self.from - self.kept >= gathers {
+                        self.hand_over(sink)?;
+                    }
+                    let s = self.session.raw();
+                    progress(Progress { place: self.place, done: s.done, len: s.len });
+                }
+                Answer::Send(k) => {
+                    self.owed = Owed::Send(0, k);
+                    self.taken(told.taken);
+                    self.send(channel, 0, k)?;
+                }
+                Answer::EmptyRead => {
+                    hungry = false;
+                    self.owed = Owed::EmptyRead;
+                    self.empty_read(channel);
+                }
+                Answer::Finished { how, reads } => return Ok(Some(self.outcome(how, reads))),
+                Answer::Refused(why) => return Err(why.into()),
+                asked => {
+                    self.owed = Owed::by(asked);
+                    self.taken(told.taken);
+                    self.settle(channel, sink)?;
+                }
+            }
+            if ONE {
+                return Ok(None);
             }
         }
     }
 
-    /// One step, and what it asks for.
+    /// Bytes that a step took are the session's, unless it handed them out: no other step of a region takes any.
     #[inline(always)]
-    fn turn<C, S, P>(&mut self, channel: &mut C, sink: &mut S, progress: &mut P, next: &mut Next) -> Result<Option<Outcome>, Error>
-    where
-        C: Read + Write + ?Sized,
-        S: Sink + ?Sized,
-        P: FnMut(Progress),
-    {
-        let wanted = match next.hungry && self.from == self.to {
-            true if next.waits > 0 => next.waits,
-            true => self.session.wanted(),
-            false => 0,
-        };
-        if wanted > 0 {
-            self.fill(channel, sink, wanted)?;
-        }
-        let told = self.step_lent();
-        (next.hungry, next.waits) = (true, told.waits as usize);
-        let answer = answer(told.answer, told.first, told.second);
-        if let Answer::Bytes(k) = answer {
-            next.hungry = k < wanted;
-            self.from += k;
-            if self.from - self.kept >= next.gathers {
-                self.hand_over(sink)?;
-            }
-            let s = self.session.raw();
-            progress(Progress { place: self.place, done: s.done, len: s.len });
-            return Ok(None);
-        }
-        // outside a region nothing is kept, and what a region's other steps take is nothing
-        self.from += told.taken;
-        if told.taken > 0 {
+    fn taken(&mut self, taken: usize) {
+        if taken > 0 {
             self.kept = self.from;
         }
-        next.hungry = answer != Answer::EmptyRead;
-        match answer {
-            Answer::Finished { how, reads } => return Ok(Some(self.outcome(how, reads))),
-            Answer::Refused(why) => return Err(why.into()),
-            asked => self.owed = Owed::by(asked),
-        }
-        self.settle(channel, sink)?;
-        Ok(None)
     }
 
     /// A step lent what was read and not taken yet.
@@ -279,50 +265,74 @@ impl Driver {
     }
 
     /// Does what is owed.
-    #[inline]
     fn settle<C, S>(&mut self, channel: &mut C, sink: &mut S) -> Result<(), Error>
     where
         C: Read + Write + ?Sized,
         S: Sink + ?Sized,
     {
-        if self.region == Region::Before {
-            self.reopen(sink)?;
-        }
+        self.reopen(sink)?;
         match self.owed {
-            Owed::Nothing => return Ok(()),
-            Owed::Send(..) | Owed::Image(..) | Owed::Flush => self.send(channel)?,
-            // the original looks at no error here either: the empty packet may not come, and carries nothing
-            Owed::EmptyRead => self.moves += u64::from(again(|| channel.read(&mut [])).is_ok()),
-            Owed::Open(place) => self.open(sink, place)?,
-            Owed::Close(place) => self.close_region(sink, place)?,
+            Owed::Nothing => Ok(()),
+            Owed::Send(from, to) => self.send(channel, from, to),
+            Owed::Image(from, to) => self.send_image(channel, from, to),
+            Owed::Flush => self.flush(channel),
+            Owed::EmptyRead => {
+                self.empty_read(channel);
+                Ok(())
+            }
+            Owed::Open(place) => self.open(sink, place),
+            Owed::Close(place) => self.close_region(sink, place),
         }
+    }
+
+    /// Sends out[from..to], which is owed.
+    #[inline(always)]
+    fn send<C: Write + ?Sized>(&mut self, channel: &mut C, mut from: usize, to: usize) -> Result<(), Error> {
+        while from < to {
+            from += write(channel, &self.out[from..to]).map_err(Error::channel)?;
+            self.moves += 1;
+            if from < to {
+                self.owed = Owed::Send(from, to);
+            }
+        }
+        self.owed = Owed::Flush;
+        self.flush(channel)
+    }
+
+    /// Sends the image set's bytes from..to, which are owed.
+    fn send_image<C: Write + ?Sized>(&mut self, channel: &mut C, mut from: usize, to: usize) -> Result<(), Error> {
+        while from < to {
+            from += write(channel, &self.set.bytes()[from..to]).map_err(Error::channel)?;
+            self.moves += 1;
+            if from < to {
+                self.owed = Owed::Image(from, to);
+            }
+        }
+        self.owed = Owed::Flush;
+        self.flush(channel)
+    }
+
+    #[inline(always)]
+    fn flush<C: Write + ?Sized>(&mut self, channel: &mut C) -> Result<(), Error> {
+        again(|| channel.flush()).map_err(Error::channel)?;
         self.owed = Owed::Nothing;
+        self.moves += 1;
         Ok(())
     }
 
-    /// Sends what is owed of the out buffer or the image set, then flushes.
+    /// The original looks at no error here either: the empty packet may not come, and carries nothing.
     #[inline]
-    fn send<C: Write + ?Sized>(&mut self, channel: &mut C) -> Result<(), Error> {
-        loop {
-            let (bytes, from, to) = match self.owed {
-                Owed::Send(from, to) => (&self.out[..], from, to),
-                Owed::Image(from, to) => (self.set.bytes(), from, to),
-                _ => break,
-            };
-            let sent = match from < to {
-                true => write(channel, &bytes[from..to]).map_err(Error::channel)?,
-                false => 0,
-            };
-            self.moves += u64::from(sent > 0);
-            self.owed = match self.owed {
-                _ if from + sent == to => Owed::Flush,
-                Owed::Image(..) => Owed::Image(from + sent, to),
-                _ => Owed::Send(from + sent, to),
-            };
+    fn empty_read<C: Read + ?Sized>(&mut self, channel: &mut C) {
+        let _ = again(|| channel.read(&mut []));
+        self.owed = Owed::Nothing;
+    }
+
+    /// Bytes of the open region that came: all of them, where its close is owed.
+    pub(crate) fn done(&self) -> u64 {
+        match self.session.phase() {
+            Phase::Region => self.session.raw().done,
+            _ => self.entry(self.place).len,
         }
-        again(|| channel.flush()).map_err(Error::channel)?;
-        self.moves += 1;
-        Ok(())
     }
 
     /// The entry of a region that the session opened in this table.
@@ -332,9 +342,9 @@ impl Driver {
 
     fn open<S: Sink + ?Sized>(&mut self, sink: &mut S, place: usize) -> Result<(), Error> {
         let entry = self.entry(place);
-        (self.place, self.handed) = (place, 0);
+        self.place = place;
         again(|| sink.open(place, &entry)).map_err(Error::Sink)?;
-        self.region = Region::Open;
+        (self.region, self.owed) = (Region::Open, Owed::Nothing);
         Ok(())
     }
 
@@ -345,8 +355,8 @@ impl Driver {
             return Ok(());
         }
         let entry = self.entry(self.place);
-        let done = keeping(|| sink.reopen(self.place, &entry, self.handed));
-        match done {
+        let taken = self.done() - (self.from - self.kept) as u64;
+        match keeping(|| sink.reopen(self.place, &entry, taken)) {
             Ok(()) => self.region = Region::Open,
             Err(Unkept::Again(e)) => return Err(Error::Sink(e)),
             Err(Unkept::Lost(e)) => {
@@ -364,7 +374,7 @@ impl Driver {
             _ => keeping(|| sink.close(place)).map(|()| true),
         };
         match closed {
-            Ok(true) => self.region = Region::None,
+            Ok(true) => (self.region, self.owed) = (Region::None, Owed::Nothing),
             Ok(false) => return self.fetch_again(place, sink),
             Err(Unkept::Again(e)) => return Err(Error::Sink(e)),
             Err(Unkept::Lost(e)) => {
@@ -386,7 +396,7 @@ impl Driver {
     }
 
     /// Hands input[kept..from] to the sink: the last bytes that the session counts as done.
-    #[inline]
+    #[inline(always)]
     fn hand_over<S: Sink + ?Sized>(&mut self, sink: &mut S) -> Result<(), Error> {
         if self.region == Region::Lost {
             self.kept = self.from;
@@ -395,7 +405,6 @@ impl Driver {
             let bytes = &self.input[self.kept..self.from];
             let n = again(|| sink.bytes(bytes)).and_then(|n| judged(n, bytes.len())).map_err(Error::Sink)?;
             self.kept += n;
-            self.handed += n as u64;
         }
         Ok(())
     }

@@ -175,7 +175,7 @@ impl Driver {
             Region::Open | Region::Before => 1,
             Region::Lost => 2,
         };
-        put(&mut to, &[region, self.place as u64, self.handed]);
+        put(&mut to, &[region, self.place as u64]);
         let (table, reply) = declared(&self.session);
         put_bytes(&mut to, &self.table[..table.min(TABLE)]);
         put(&mut to, &[self.reply.len() as u64]);
@@ -225,7 +225,7 @@ fn restored(mut d: Driver, mut from: From) -> Option<Driver> {
         2 => Region::Lost,
         _ => return None,
     };
-    (d.place, d.handed) = (from.size()?, from.number()?);
+    d.place = from.size()?;
     let table = from.bytes(TABLE)?;
     d.table[..table.len()].copy_from_slice(table);
     let room = from.size()?;
@@ -245,19 +245,17 @@ fn restored(mut d: Driver, mut from: From) -> Option<Driver> {
     (from.0.is_empty() && sound(&d)).then_some(d)
 }
 
-/// What is owed fits the buffers and the table, and the sink's bytes with those gathered are what the session counts.
+/// What is owed fits the buffers and the table, and no more is gathered than came of the open region.
 fn sound(d: &Driver) -> bool {
-    let entry = |place| crate::entry_at(&d.table, place);
+    let entry = |place| crate::entry_at(&d.table, place).is_some();
     let owed = match d.owed {
         Owed::Send(from, to) => from <= to && to <= d.out.len(),
         Owed::Image(from, to) => from <= to && to <= d.set.bytes().len(),
-        Owed::Open(place) | Owed::Close(place) => entry(place).is_some(),
+        Owed::Open(place) | Owed::Close(place) => entry(place),
         _ => true,
     };
-    let done = match (d.region, d.session.phase()) {
-        (Region::None, _) => return owed && d.from == 0,
-        (_, Phase::Region) => Some(d.session.raw().done),
-        _ => entry(d.place).map(|e| e.len),
-    };
-    owed && entry(d.place).is_some() && (d.region == Region::Lost || done == d.handed.checked_add(d.from as u64))
+    owed && match d.region {
+        Region::None => d.from == 0,
+        _ => entry(d.place) && d.from as u64 <= d.done(),
+    }
 }
