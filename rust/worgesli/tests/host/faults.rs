@@ -1,4 +1,5 @@
 //! The driver against channels and sinks that fail.
+use crate::saved::Gathering;
 use crate::world::{world, Kept, Record, World};
 use device::{Device, Division, Faults, Memory, Region, Turn, Wire};
 use std::io::{self, ErrorKind, Read, Write};
@@ -146,6 +147,66 @@ fn gone_after_each_byte() {
             beginning(&sink.0, &w.kept(), end.saturating_sub(48 + 24 + 192));
         }
     }
+}
+
+/// What was gathered is the sink's when a call ends, whatever ended it: nobody must come back for it.
+#[test]
+fn gathered_bytes_are_handed_over() {
+    let regions = [Region::new("A.BIN", 77, 9000)];
+    let w = World { memory: Memory::new(5, 1 << 40, &regions), regions: regions.to_vec(), names: vec![], backend: Backend::Usb };
+    let before = 48 + 24 + 64;
+    for end in before..before + 9000 {
+        let faults = match end % 3 {
+            0 => Faults { ends_after: Some(end), ..Faults::default() },
+            1 => Faults { fails_after: Some((end, ErrorKind::BrokenPipe)), ..Faults::default() },
+            _ => Faults { fails_after: Some((end, ErrorKind::TimedOut)), ..Faults::default() },
+        };
+        let mut wire = wire(&w, end, faults);
+        let mut sink = Gathering(Record::default(), 65_536);
+        let mut run = driver(&w);
+        assert!(run.run(&mut wire, &mut sink, |_| ()).is_err());
+        beginning(&sink.0 .0, &w.kept(), end - before);
+    }
+    // and a whole fetch is handed over in few calls
+    struct Calls(u64, u64);
+    impl Sink for Calls {
+        fn open(&mut self, _: usize, _: &Entry) -> io::Result<()> {
+            Ok(())
+        }
+        fn bytes(&mut self, bytes: &[u8]) -> io::Result<usize> {
+            (self.0, self.1) = (self.0 + 1, self.1 + bytes.len() as u64);
+            Ok(bytes.len())
+        }
+        fn close(&mut self, _: usize) -> Result<(), Unkept> {
+            Ok(())
+        }
+        fn gathers(&self) -> usize {
+            65_536
+        }
+    }
+    let memory = Memory::new(1, 1 << 40, &[Region::new("A", 0, 1 << 20)]);
+    let mut wire = Wire::new(Device::dump(memory), Division::AtMost(512), 1);
+    let mut sink = Calls(0, 0);
+    sahara_run(&mut wire, &dump(Backend::Usb), &mut sink, |_| ()).unwrap();
+    assert_eq!((sink.0, sink.1), (16, 1 << 20));
+}
+
+/// Errors say what they are where a `main` returns them, and nothing prints what was fetched.
+#[test]
+fn what_is_printed() {
+    let refused = Error::from(Options::new(Backend::Usb, Mode::Command).names(vec!["a"; 65]).start().unwrap_err());
+    assert_eq!(format!("{refused:?}"), refused.to_string());
+    assert!(refused.to_string().starts_with("refused (2): the name list is malformed"));
+    let options = dump(Backend::Usb).images(&[Some(vec![0xa5; 5000])]).names(["secret"]);
+    let regions = [Region::new("A.BIN", 77, 9000)];
+    let mut wire = Wire::new(Device::dump(Memory::new(5, 1 << 40, &regions)), Division::AtMost(1000), 1);
+    let mut run = options.start().unwrap();
+    for _ in 0..5 {
+        run.step(&mut wire, &mut Count::default(), |_| ()).unwrap();
+    }
+    let (run, options) = (format!("{run:?}"), format!("{options:?}"));
+    assert!(run.contains("Between") && run.len() < 400, "{run}");
+    assert!(options.len() < 300 && !options.contains("165") && !options.contains("115, 101"), "{options}");
 }
 
 /// `came` is a beginning of `due` and has so many bytes.

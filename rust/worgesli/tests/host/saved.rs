@@ -5,7 +5,7 @@ use std::io::{self, ErrorKind};
 use worgesli::{Backend, Command, Count, Driver, Entry, Error, Mode, Options, Outcome, RestoreError, Sink, Unkept};
 
 /// A sink with a gathering of its own.
-struct Gathering<S>(S, usize);
+pub struct Gathering<S>(pub S, pub usize);
 
 impl<S: Sink> Sink for Gathering<S> {
     fn open(&mut self, place: usize, entry: &Entry) -> io::Result<()> {
