@@ -219,8 +219,14 @@ impl Driver {
                     self.owed = Owed::EmptyRead;
                     self.empty_read(channel);
                 }
-                Answer::Finished { how, reads } => return Ok(Some(self.outcome(how, reads))),
-                Answer::Refused(why) => return Err(why.into()),
+                Answer::Finished { how, reads } => {
+                    self.taken(told.taken);
+                    return Ok(Some(self.outcome(how, reads)));
+                }
+                Answer::Refused(why) => {
+                    self.taken(told.taken);
+                    return Err(why.into());
+                }
                 asked => {
                     self.owed = Owed::by(asked);
                     self.taken(told.taken);

@@ -400,6 +400,7 @@ fn refused(said: Vec<u8>, mode: Mode, images: &[Option<Vec<u8>>]) -> u8 {
         wire.faults.ends_after = Some(said.len() as u64);
         let mut sink = Count::default();
         let end = sahara_run(&mut wire, &Options::new(Backend::Serial, mode).images(images), &mut sink, |_| ());
+        assert_eq!(sink, Count::default());
         let e = end.unwrap_err();
         let number = e.number().unwrap();
         assert!(e.to_string().starts_with(&format!("refused ({number}): ")), "{e}");
