@@ -18,7 +18,7 @@ use Rattle.image.specs.declared.ImageRange.the-variants as R
 abbrev pub slotFor : ℕ → ℕ → ℕ
 slotFor n id = pick (eqb n 1) 0 id
 
--- offset and length within a slot: where the bytes start in the set, and how many
+-- offset and length within a slot: where the bytes start, counted from the set's first byte, its header included (`slotOf` has added it), and how many
 abbrev pub rangeIn : Slot → ℕ → ℕ → ImageRange
 rangeIn (At start size) offset len = pick (leb (offset + len) size) (R.At (start + offset) len) (R.Refused 13)
 rangeIn Absent offset len = R.Refused 12

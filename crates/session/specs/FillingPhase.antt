@@ -14,7 +14,7 @@ use Rattle.session.specs.declared.Answer.the-variants as A
 use Rattle.session.specs.Outcome.{inPhase, filling, Outcome, outcome, gives}
 
 -- "fill the reply buffer; while short, go; when full (length 0: without a byte) send SwitchMode; the next step finishes (4)". Of length 0 nothing is
--- missing, so the test of "short" fails on any delivery
+-- missing, so the test of "short" fails on any delivery. What stands in the buffer behind the declared length stays as it was
 unfoldable pub responseOf : Session → Filling → List ℕ → List ℕ → List ℕ → List ℕ → Outcome
 responseOf s x d t y o =
     let n = min (x .declared - x .filled) (length d) in
@@ -27,7 +27,7 @@ unfoldable pub switchedOf : Session → ℕ → List ℕ → List ℕ → List �
 switchedOf s k t y o = outcome (gives (inPhase s (P.Ended k)) 0 (A.Finished 4 (s .reads))) t y o
 
 -- "fill the table buffer; each such step gives go, and length 0 takes one step without a byte". The step that takes the last byte, or that one of length 0, gives
--- go and comes to between; the first region is opened in the step after it, which takes nothing
+-- go and comes to between; the first region is opened in the step after it, which takes nothing. What stands in the buffer behind the declared length stays as it was
 unfoldable pub tableOf : Session → Filling → List ℕ → List ℕ → List ℕ → List ℕ → Outcome
 tableOf s x d t y o =
     let n = min (x .declared - x .filled) (length d) in

@@ -30,8 +30,8 @@ regionLimit f k x t =
     ltb (length t) k || leb (entriesIn f k) (x .entry) || ltb (x .len) (x .done + x .outstanding)
     || (not (eqb (x .done + x .outstanding) 0) && ltb (256 ^ f) (x .base + x .len))
 
--- "memory reads 2^63 + 1", before a step: one for the table, and 1,024 regions (65,536 / 64) of 2^53 chunks each, which is 2^64 bytes by 2,048: 01's bound, which
--- leaves room for chunks of half of 4,096
+-- "memory reads 2^63 + 1", before a step: one for the table, and 1,024 regions (65,536 / 64) of 2^53 chunks each, which is 2^64 bytes divided by 2,048; 1,024 times 2^53
+-- is 2^63. 01's bound leaves room for chunks of half of 4,096: with these no run passes 2^62 + 1
 abbrev pub readsLimit : Session → Bool
 readsLimit s = ltb (2 ^ 63 + 1) (s .reads)
 

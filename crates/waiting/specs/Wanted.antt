@@ -15,7 +15,7 @@ abbrev pub regionWaits : Region → Bool
 regionWaits x = pick (x .due) false (pick (eqb (x .outstanding) 0) false true)
 
 -- a packet; a response or a table that is not full; a region with bytes outstanding. Of a session within its limits: exactly where a step with an empty
--- delivery gives go and changes nothing (`waits`, `waits-only` of proofs/Waiting)
+-- delivery that 1, 2 or 3 does not refuse (`InOrder` of specs/Waiting) gives go and changes nothing (`waits`, `waits-only` of proofs/Waiting)
 abbrev pub needsBytes : Phase → Bool
 needsBytes (P.Packet h) = true
 needsBytes (P.Response x) = ltb (x .filled) (x .declared)
@@ -35,7 +35,8 @@ regionWants x = pick (x .due) 0 (x .outstanding)
 
 -- how many bytes are asked for, as the Rust's reads ask: of a packet its header, then what its length field leaves; what is missing of a response or a
 -- table; what is outstanding of a region. 0 where none are needed, and where more is there than was declared. Of a session within its limits: 0 exactly
--- where none are needed, and a step lent no more takes all of it (`wanted-needs`, `takes-all` of proofs/Waiting).
+-- where none are needed (`wanted-needs` of proofs/Waiting), and a step that 1, 2 or 3 does not refuse (`InOrder` of specs/Waiting), lent no more, takes all of it
+-- (`takes-all`).
 -- It is not the most that a step takes: one lent more than a header goes on to the packet's end
 abbrev pub wantedIn : List ℕ → Phase → ℕ
 wantedIn w (P.Packet h) = packetWants w h
