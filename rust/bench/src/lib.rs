@@ -7,7 +7,7 @@ use std::fs::{File, OpenOptions};
 use std::hint::black_box;
 use std::io::{self, Read, Write};
 use std::time::{Duration, Instant};
-use worgesli::{sahara_run, Backend, Entry, Mode, Outcome, Sink, Unkept};
+use worgesli::{sahara_run, Backend, Entry, Mode, Options, Outcome, Sink, Unkept};
 
 /// What is fetched.
 #[derive(Clone, Debug)]
@@ -99,8 +99,8 @@ impl Host for Worgesli {
 
     fn fetch(&mut self, setting: &Setting, channel: &mut Wire) -> u64 {
         let mut sink = Kept(&mut self.0, 0);
-        let (images, names) = (setting.images(), setting.names());
-        let end = sahara_run(channel, setting.backend, Mode::MemoryDebug, None, &images, &names, &mut sink, |_| (), 0);
+        let options = Options::new(setting.backend, Mode::MemoryDebug).images(&setting.images()).names(setting.names());
+        let end = sahara_run(channel, &options, &mut sink, |_| ());
         assert_eq!(end.unwrap(), Outcome::Dumped { reads: 1 + setting.chunks() });
         sink.1
     }

@@ -1,4 +1,6 @@
 //! Prints what the host costs. `cargo run --release -p bench`
+//!
+//! `bench once bare|worgesli serial|usb MIB` makes one fetch and prints nothing, for a count of its instructions.
 mod steps;
 
 use bench::{fetches, table, Bare, Host, Keep, Setting, Worgesli};
@@ -15,7 +17,25 @@ fn line(what: &str, setting: &Setting, rounds: usize) {
     println!("    {what:<44} {:8.1} {:8.1}   {all:12.1}", l - bl, m - bm);
 }
 
+/// One fetch, bytes counted.
+fn once(args: &[String]) {
+    let [host, backend, mib] = args else { panic!("bench once bare|worgesli serial|usb MIB") };
+    let backend = if backend == "usb" { Backend::Usb } else { Backend::Serial };
+    let setting = Setting::new(backend, mib.parse::<u64>().expect("a number of MiB") * MIB);
+    let mut wire = setting.wire();
+    let kept = match host.as_str() {
+        "bare" => Bare(Keep::Count).fetch(&setting, &mut wire),
+        _ => Worgesli(Keep::Count).fetch(&setting, &mut wire),
+    };
+    assert_eq!(kept, setting.regions[0]);
+}
+
 fn main() -> std::io::Result<()> {
+    let args: Vec<String> = std::env::args().skip(1).collect();
+    if let Some(("once", rest)) = args.split_first().map(|(first, rest)| (first.as_str(), rest)) {
+        once(rest);
+        return Ok(());
+    }
     for (name, backend) in [("serial", Backend::Serial), ("USB", Backend::Usb)] {
         let setting = Setting::new(backend, 64 * MIB);
         let mut hosts = (Bare(Keep::Count), Worgesli(Keep::Count));

@@ -5,7 +5,7 @@ use std::error::Error;
 use std::fs;
 use std::path::{Path, PathBuf};
 use std::time::{Instant, SystemTime};
-use worgesli::{sahara_run, Backend, Folder, Mode, Outcome};
+use worgesli::{sahara_run, Backend, Folder, Mode, Options, Outcome};
 
 /// The first of run-1, run-2, … that is not there yet.
 fn fresh(folder: &Path) -> std::io::Result<PathBuf> {
@@ -51,9 +51,8 @@ fn main() -> Result<(), Box<dyn Error>> {
     let far = std::thread::spawn(move || device::serve(far_device, far, seed));
     let mut sink = Folder::new(&folder)?;
     let start = Instant::now();
-    let names: &[&str] = &[];
     let mut reported = 0u64;
-    let outcome = sahara_run(&mut host, Backend::Usb, Mode::MemoryDebug, None, &[], names, &mut sink, |_| reported += 1, 0)?;
+    let outcome = sahara_run(&mut host, &Options::new(Backend::Usb, Mode::MemoryDebug), &mut sink, |_| reported += 1)?;
     let time = start.elapsed();
     let (reads, short, empty) = (host.reads, host.short, host.empty_reads);
     drop(host);

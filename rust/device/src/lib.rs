@@ -1,14 +1,18 @@
 //! A simulated Sahara device: what it says and hears, in memory or behind a socket, with its bytes divided anywhere and with faults.
 //! It knows nothing of the host under test.
+mod bulk;
 mod memory;
 mod packets;
+mod pty;
 mod rng;
 mod socket;
 mod tape;
 mod wire;
 
+pub use bulk::Bulk;
 pub use memory::{padded, Memory, Region};
 pub use packets::*;
+pub use pty::{serve_pty, Pty};
 pub use rng::{mix, Rng};
 pub use socket::{serve, Socket};
 pub use tape::Tape;
@@ -154,30 +158,37 @@ impl Device {
     pub fn say(&mut self, to: &mut [u8]) -> usize {
         let mut filled = 0;
         while filled < to.len() {
-            let to = &mut to[filled..];
-            let (n, empty) = match self.queue.front_mut() {
+            match self.say_of_one(&mut to[filled..]) {
                 None => break,
-                Some(Piece::Bytes(bytes, from)) => {
-                    let n = to.len().min(bytes.len() - *from);
-                    to[..n].copy_from_slice(&bytes[*from..*from + n]);
-                    *from += n;
-                    (n, *from == bytes.len())
-                }
-                Some(Piece::Memory { at, len }) => {
-                    let n = (*len).min(to.len() as u64) as usize;
-                    self.memory.read(*at, &mut to[..n]);
-                    *at = at.wrapping_add(n as u64);
-                    *len -= n as u64;
-                    (n, *len == 0)
-                }
-            };
-            if empty {
-                self.queue.pop_front();
+                Some((n, _)) => filled += n,
             }
-            self.queued -= n as u64;
-            filled += n;
         }
         filled
+    }
+
+    /// Fills `to` from what was said in one piece, a packet or the answer to a memory read; gives how many bytes, and whether it ends with them.
+    /// None where nothing is queued.
+    pub fn say_of_one(&mut self, to: &mut [u8]) -> Option<(usize, bool)> {
+        let (n, ended) = match self.queue.front_mut()? {
+            Piece::Bytes(bytes, from) => {
+                let n = to.len().min(bytes.len() - *from);
+                to[..n].copy_from_slice(&bytes[*from..*from + n]);
+                *from += n;
+                (n, *from == bytes.len())
+            }
+            Piece::Memory { at, len } => {
+                let n = (*len).min(to.len() as u64) as usize;
+                self.memory.read(*at, &mut to[..n]);
+                *at = at.wrapping_add(n as u64);
+                *len -= n as u64;
+                (n, *len == 0)
+            }
+        };
+        if ended {
+            self.queue.pop_front();
+        }
+        self.queued -= n as u64;
+        Some((n, ended))
     }
 
     /// Bytes that were said and not taken yet.

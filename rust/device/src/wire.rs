@@ -34,7 +34,7 @@ pub struct Wire {
     pub division: Division,
     pub faults: Faults,
     rng: Rng,
-    /// reads that asked for bytes and got some, those that got fewer than they asked for, empty reads, flushes
+    /// reads that asked for bytes and got some, those that got fewer than they asked for, empty reads that were not interrupted, flushes
     pub reads: u64,
     pub short: u64,
     pub empty_reads: u64,
@@ -101,11 +101,13 @@ impl Wire {
 
 impl Read for Wire {
     fn read(&mut self, to: &mut [u8]) -> io::Result<usize> {
-        self.fault()?;
+        let fault = self.fault();
         if to.is_empty() {
-            self.empty_reads += 1;
-            return Ok(0);
+            let interrupted = matches!(&fault, Err(e) if e.kind() == ErrorKind::Interrupted);
+            self.empty_reads += u64::from(!interrupted);
+            return fault.map(|()| 0);
         }
+        fault?;
         let room = self.room(to.len())?;
         if room == 0 {
             return Ok(0);

@@ -2,6 +2,8 @@
 //!
 //! Slot count and data size, the slots' starts, their lengths (4 bytes each, little-endian), the data.
 use crate::{raw, Refusal};
+use std::fmt;
+use std::sync::Arc;
 
 /// The most slots of a bundle.
 pub const SLOTS: usize = 64;
@@ -37,9 +39,9 @@ fn bundle<'a>(slots: impl ExactSizeIterator<Item = Option<&'a [u8]>> + Clone) ->
     Some(starts)
 }
 
-/// An image set: for each slot an image, or none.
-#[derive(Clone, Debug, PartialEq, Eq)]
-pub struct ImageSet(Box<[u8]>);
+/// An image set: for each slot an image, or none. A clone shares the bytes.
+#[derive(Clone, PartialEq, Eq)]
+pub struct ImageSet(Arc<[u8]>);
 
 impl ImageSet {
     /// Refused (1) above 64 slots or 4 GiB.
@@ -54,6 +56,8 @@ impl ImageSet {
         Ok(ImageSet(set.into()))
     }
 
+    /// The bundle.
+    #[inline]
     pub fn bytes(&self) -> &[u8] {
         &self.0
     }
@@ -67,8 +71,8 @@ impl ImageSet {
 }
 
 /// The names of the regions to dump. With no names, the device's preference decides.
-#[derive(Clone, Debug, PartialEq, Eq)]
-pub struct NameList(Box<[u8]>);
+#[derive(Clone, PartialEq, Eq)]
+pub struct NameList(Arc<[u8]>);
 
 impl NameList {
     /// Refused (2) above 64 names or 4 GiB.
@@ -83,7 +87,21 @@ impl NameList {
         Ok(NameList(list.into()))
     }
 
+    /// The bundle.
+    #[inline]
     pub fn bytes(&self) -> &[u8] {
         &self.0
+    }
+}
+
+impl fmt::Debug for ImageSet {
+    fn fmt(&self, f: &mut fmt::Formatter<'_>) -> fmt::Result {
+        write!(f, "ImageSet({} bytes)", self.0.len())
+    }
+}
+
+impl fmt::Debug for NameList {
+    fn fmt(&self, f: &mut fmt::Formatter<'_>) -> fmt::Result {
+        write!(f, "NameList({} bytes)", self.0.len())
     }
 }

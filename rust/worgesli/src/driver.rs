@@ -1,94 +1,49 @@
 //! The driver: runs a session over a channel.
+//!
+//! What a step took or asked for is written down before anything that is not ours is called (channel, sink, progress), and crossed out
+//! behind it: after an error or a panic there, the next call goes on with what is still owed.
 use crate::session::{answer, OUT, TABLE};
-use crate::{entry_at, raw, Answer, Backend, Command, ImageSet, Mode, NameList, Refusal, Session, Sink, Unkept};
+use crate::{entry_at, raw, Answer, Entry, Error, ImageSet, NameList, Options, Phase, Refusal, Session, Sink, Unkept};
 use std::fmt;
 use std::io::{self, ErrorKind, Read, Write};
 
-/// The reply buffer of [`Driver::new`].
+/// The reply buffer of a run, if its options name no other.
 pub const REPLY: usize = 65_536;
-/// The most that is read at a time.
-const INPUT: usize = 65_536;
+/// What is read and not yet handed over, at most.
+pub(crate) const INPUT: usize = 65_536;
 
 /// How a run ended.
 #[derive(Clone, Debug, PartialEq, Eq)]
+#[non_exhaustive]
 pub enum Outcome {
     /// finished (1): the images were sent
     ImagesSent,
     /// finished (2): the device was reset
     Reset,
-    /// finished (3): the regions were dumped, with so many memory reads
-    Dumped { reads: u64 },
+    /// finished (3): the regions were dumped
+    Dumped {
+        /// memory reads that were sent
+        reads: u64,
+    },
     /// finished (4): the response to the command
     Reply(Vec<u8>),
 }
 
-/// Why a run stopped. After all but `Refused` it can go on where it was.
-#[derive(Debug)]
-pub enum Error {
-    /// the session has ended
-    Refused(Refusal),
-    /// the channel said `TimedOut` or `WouldBlock`
-    TimedOut(io::Error),
-    /// any other error of the channel
-    Channel(io::Error),
-    /// an error of the sink
-    Sink(io::Error),
-}
-
-impl Error {
-    fn channel(e: io::Error) -> Error {
-        match e.kind() {
-            ErrorKind::TimedOut | ErrorKind::WouldBlock => Error::TimedOut(e),
-            _ => Error::Channel(e),
-        }
-    }
-
-    /// The refusal's number, if it is one.
-    pub fn number(&self) -> Option<u8> {
-        match self {
-            Error::Refused(why) => Some(why.number()),
-            _ => None,
-        }
-    }
-}
-
-impl fmt::Display for Error {
-    fn fmt(&self, f: &mut fmt::Formatter<'_>) -> fmt::Result {
-        match self {
-            Error::Refused(why) => why.fmt(f),
-            Error::TimedOut(e) => write!(f, "the channel timed out: {e}"),
-            Error::Channel(e) => write!(f, "the channel failed: {e}"),
-            Error::Sink(e) => write!(f, "a region could not be kept: {e}"),
-        }
-    }
-}
-
-impl std::error::Error for Error {
-    fn source(&self) -> Option<&(dyn std::error::Error + 'static)> {
-        match self {
-            Error::Refused(why) => Some(why),
-            Error::TimedOut(e) | Error::Channel(e) | Error::Sink(e) => Some(e),
-        }
-    }
-}
-
-impl From<Refusal> for Error {
-    fn from(why: Refusal) -> Error {
-        Error::Refused(why)
-    }
-}
-
-/// Bytes of a region reached the sink: its place in the table, how many so far, its length.
+/// Bytes of a region came.
 #[derive(Clone, Copy, Debug, PartialEq, Eq)]
+#[non_exhaustive]
 pub struct Progress {
+    /// the region's place in the table
     pub place: usize,
+    /// bytes so far
     pub done: u64,
+    /// its length
     pub len: u64,
 }
 
-/// What the last step asked for and is not done yet.
+/// What the last step asked for and is not done yet. Bytes of a region are not here: they are the driver's input[kept..from].
 #[derive(Clone, Copy, Debug, PartialEq, Eq)]
-enum Owed {
+pub(crate) enum Owed {
     Nothing,
     /// these bytes of the out buffer are to be written
     Send(usize, usize),
@@ -97,28 +52,40 @@ enum Owed {
     Flush,
     EmptyRead,
     Open(usize),
-    /// these bytes of the input are the sink's
-    Bytes(usize, usize),
     Close(usize),
 }
 
-/// A run in progress: the session, the buffers it is lent, and what is still to be done. Whatever error stops [`run`](Driver::run),
-/// no byte is lost: called again, it goes on.
-#[derive(Debug)]
+/// What the sink has of a region.
+#[derive(Clone, Copy, Debug, PartialEq, Eq)]
+pub(crate) enum Region {
+    /// none is open
+    None,
+    Open,
+    /// open in an earlier process
+    Before,
+    /// the sink lost it: what comes is not kept, and behind its end it is fetched again
+    Lost,
+}
+
+/// A run in progress: the session, the buffers it is lent, and what is still to be done. Whatever stops [`run`](Driver::run), an error
+/// or a panic of the channel, the sink or the progress callback, no byte is lost: called again, it goes on.
 pub struct Driver {
-    session: Session,
-    set: ImageSet,
-    names: NameList,
-    table: Box<[u8]>,
-    reply: Box<[u8]>,
-    out: Box<[u8]>,
-    input: Box<[u8]>,
-    /// the bytes input[from..to] were read and not taken yet
-    from: usize,
-    to: usize,
-    owed: Owed,
+    pub(crate) session: Session,
+    pub(crate) set: ImageSet,
+    pub(crate) names: NameList,
+    timeouts: u32,
+    pub(crate) table: Box<[u8]>,
+    pub(crate) reply: Box<[u8]>,
+    pub(crate) out: Box<[u8]>,
+    pub(crate) input: Box<[u8]>,
+    /// input[kept..from] is the open region's and not the sink's yet; input[from..to] was read and not taken yet
+    pub(crate) kept: usize,
+    pub(crate) from: usize,
+    pub(crate) to: usize,
+    pub(crate) owed: Owed,
+    pub(crate) region: Region,
     /// the place in the table of the region that was opened last
-    place: usize,
+    pub(crate) place: usize,
     /// reads, writes and flushes of the channel that succeeded
     moves: u64,
 }
@@ -128,36 +95,27 @@ fn buffer(len: usize) -> Box<[u8]> {
 }
 
 impl Driver {
-    /// Opens a session. Refused: 1 and 2, where there are more than 64 images or names, or 4 GiB of them.
-    pub fn new<N: AsRef<[u8]>>(
-        backend: Backend,
-        mode: Mode,
-        command: Option<Command>,
-        images: &[Option<Vec<u8>>],
-        names: &[N],
-    ) -> Result<Driver, Refusal> {
-        let session = Session::open(mode, command, backend);
-        Ok(Driver::with(session, ImageSet::new(images)?, NameList::new(names)?, REPLY))
-    }
-
-    /// From a session that was just opened, bundles, and the length of the reply buffer.
-    pub fn with(session: Session, set: ImageSet, names: NameList, reply: usize) -> Driver {
+    pub(crate) fn with(session: Session, set: ImageSet, names: NameList, reply: usize, timeouts: u32) -> Driver {
         Driver {
             session,
             set,
             names,
+            timeouts,
             table: buffer(TABLE),
             reply: buffer(reply),
             out: buffer(OUT),
             input: buffer(INPUT),
+            kept: 0,
             from: 0,
             to: 0,
             owed: Owed::Nothing,
+            region: Region::None,
             place: 0,
             moves: 0,
         }
     }
 
+    /// The session as it stands.
     pub fn session(&self) -> &Session {
         &self.session
     }
@@ -167,25 +125,67 @@ impl Driver {
         &self.table
     }
 
-    /// Counts the empty read that timed out as made: for a device that sends no empty packet behind a full one.
-    pub fn skip_empty_read(&mut self) {
-        if self.owed == Owed::EmptyRead {
-            self.owed = Owed::Nothing;
-        }
-    }
-
-    /// Runs the session to its end, or to the first error.
+    /// Runs the session to its end, or to the first error; time-outs are borne as [`Options::timeouts`] says.
     ///
     /// The channel is asked for no more bytes than the session wants, so that what comes after Sahara is left in it. A read of 0 bytes
-    /// is its end: refused (23). Interrupted calls are made again. In a region nothing is allocated, and the sink is lent the bytes
-    /// where they were read.
+    /// is borne like a time-out. Interrupted calls are made again. An empty read is made once, and its error is not looked at: a device may send no
+    /// empty packet. In a region nothing is allocated or copied: the sink is lent the bytes where they were read. What was gathered is handed over
+    /// before an error is returned.
     pub fn run<C, S, P>(&mut self, channel: &mut C, sink: &mut S, mut progress: P) -> Result<Outcome, Error>
     where
         C: Read + Write + ?Sized,
         S: Sink + ?Sized,
         P: FnMut(Progress),
     {
-        self.settle(channel, sink, &mut progress)?;
+        let mut borne = 0;
+        loop {
+            let moves = self.moves;
+            let why = match self.go::<false, C, S, P>(channel, sink, &mut progress) {
+                Ok(Some(end)) => return Ok(end),
+                Ok(None) => continue,
+                Err(why) => why,
+            };
+            self.hand_over_behind(&why, sink)?;
+            if self.moves != moves {
+                borne = 0;
+            }
+            if !why.is_silence() || borne == self.timeouts {
+                return Err(why);
+            }
+            borne += 1;
+        }
+    }
+
+    /// One step, and what it asks for: the end, where it is that. No time-out is borne. Between two calls a run can be [saved](Driver::save).
+    pub fn step<C, S, P>(&mut self, channel: &mut C, sink: &mut S, mut progress: P) -> Result<Option<Outcome>, Error>
+    where
+        C: Read + Write + ?Sized,
+        S: Sink + ?Sized,
+        P: FnMut(Progress),
+    {
+        let end = self.go::<true, C, S, P>(channel, sink, &mut progress);
+        end.or_else(|why| self.hand_over_behind(&why, sink).and(Err(why)))
+    }
+
+    /// Gives up: what was gathered is handed over, and the session is closed. Gives the refusal: 23, or 4 where it had ended.
+    pub fn close<S: Sink + ?Sized>(&mut self, sink: &mut S) -> Result<Refusal, Error> {
+        self.reopen(sink)?;
+        self.hand_over(sink)?;
+        match self.session.closed() {
+            Answer::Refused(why) => Ok(why),
+            _ => unreachable!("closing is a refusal"),
+        }
+    }
+
+    /// What is owed, then steps and what each asks for: one, or all to the end.
+    fn go<const ONE: bool, C, S, P>(&mut self, channel: &mut C, sink: &mut S, progress: &mut P) -> Result<Option<Outcome>, Error>
+    where
+        C: Read + Write + ?Sized,
+        S: Sink + ?Sized,
+        P: FnMut(Progress),
+    {
+        self.settle(channel, sink)?;
+        let gathers = sink.gathers().min(INPUT);
         // whether the next step may need bytes. Where it does and is lent none, it only says go. In a region the step before told how many.
         let (mut hungry, mut waits) = (true, 0);
         loop {
@@ -195,38 +195,55 @@ impl Driver {
                 false => 0,
             };
             if wanted > 0 {
-                self.fill(channel, wanted)?;
+                self.fill(channel, sink, wanted)?;
             }
-            let told = self.step();
+            let told = self.step_lent();
             (hungry, waits) = (true, told.waits as usize);
-            let done = match answer(told.answer, told.first, told.second) {
-                Answer::Go => Ok(()),
-                Answer::Send(k) => self.send(channel, 0, k),
-                Answer::Image { start, len } => self.send_image(channel, start, start + len),
-                Answer::Open(place) => self.open(sink, place),
+            self.from += told.taken;
+            match answer(told.answer, told.first, told.second) {
                 Answer::Bytes(k) => {
                     hungry = k < wanted;
-                    self.hand(sink, &mut progress, self.from, self.from + k)
+                    if self.from - self.kept >= gathers {
+                        self.hand_over(sink)?;
+                    }
+                    let s = self.session.raw();
+                    progress(Progress { place: self.place, done: s.done, len: s.len });
+                }
+                Answer::Send(k) => {
+                    self.owed = Owed::Send(0, k);
+                    self.taken(told.taken);
+                    self.send(channel, 0, k)?;
                 }
                 Answer::EmptyRead => {
                     hungry = false;
-                    self.empty_read(channel)
+                    self.owed = Owed::EmptyRead;
+                    self.empty_read(channel);
                 }
-                Answer::Close(place) => self.close(sink, place),
-                Answer::Finished { how, reads } => {
-                    self.from += told.taken;
-                    return Ok(self.outcome(how, reads));
+                Answer::Finished { how, reads } => return Ok(Some(self.outcome(how, reads))),
+                Answer::Refused(why) => return Err(why.into()),
+                asked => {
+                    self.owed = Owed::by(asked);
+                    self.taken(told.taken);
+                    self.settle(channel, sink)?;
                 }
-                Answer::Refused(why) => Err(why.into()),
-            };
-            self.from += told.taken;
-            done?;
+            }
+            if ONE {
+                return Ok(None);
+            }
+        }
+    }
+
+    /// Bytes that a step took are the session's, unless it handed them out: no other step of a region takes any.
+    #[inline(always)]
+    fn taken(&mut self, taken: usize) {
+        if taken > 0 {
+            self.kept = self.from;
         }
     }
 
     /// A step lent what was read and not taken yet.
-    #[inline]
-    fn step(&mut self) -> raw::Placed {
+    #[inline(always)]
+    fn step_lent(&mut self) -> raw::Placed {
         raw::step_in_place(
             self.session.raw_mut(),
             &self.input[self.from..self.to],
@@ -238,41 +255,6 @@ impl Driver {
         )
     }
 
-    /// As [`run`](Driver::run), bearing so many time-outs in a row. An empty read that times out once more is counted as made, so that a
-    /// device that sends no empty packet is fetched from too, as with the original.
-    pub fn run_bearing<C, S, P>(
-        &mut self,
-        channel: &mut C,
-        sink: &mut S,
-        mut progress: P,
-        timeouts: u32,
-    ) -> Result<Outcome, Error>
-    where
-        C: Read + Write + ?Sized,
-        S: Sink + ?Sized,
-        P: FnMut(Progress),
-    {
-        let mut borne = 0;
-        loop {
-            let moves = self.moves;
-            let ended = self.run(channel, sink, &mut progress);
-            let Err(Error::TimedOut(_)) = ended else {
-                return ended;
-            };
-            if self.moves != moves {
-                borne = 0;
-            }
-            if borne < timeouts {
-                borne += 1;
-            } else if self.owed == Owed::EmptyRead {
-                self.skip_empty_read();
-                borne = 0;
-            } else {
-                return ended;
-            }
-        }
-    }
-
     fn outcome(&self, how: u8, reads: u64) -> Outcome {
         match how {
             1 => Outcome::ImagesSent,
@@ -282,136 +264,212 @@ impl Driver {
         }
     }
 
-    /// Does what the last call left undone.
-    fn settle<C, S, P>(&mut self, channel: &mut C, sink: &mut S, progress: &mut P) -> Result<(), Error>
+    /// Does what is owed.
+    fn settle<C, S>(&mut self, channel: &mut C, sink: &mut S) -> Result<(), Error>
     where
         C: Read + Write + ?Sized,
         S: Sink + ?Sized,
-        P: FnMut(Progress),
     {
-        match std::mem::replace(&mut self.owed, Owed::Nothing) {
+        self.reopen(sink)?;
+        match self.owed {
             Owed::Nothing => Ok(()),
             Owed::Send(from, to) => self.send(channel, from, to),
             Owed::Image(from, to) => self.send_image(channel, from, to),
             Owed::Flush => self.flush(channel),
-            Owed::EmptyRead => self.empty_read(channel),
+            Owed::EmptyRead => {
+                self.empty_read(channel);
+                Ok(())
+            }
             Owed::Open(place) => self.open(sink, place),
-            Owed::Bytes(from, to) => self.hand(sink, progress, from, to),
-            Owed::Close(place) => self.close(sink, place),
+            Owed::Close(place) => self.close_region(sink, place),
         }
     }
 
-    /// Leaves something undone.
-    #[cold]
-    fn stop(&mut self, owed: Owed, why: Error) -> Result<(), Error> {
-        self.owed = owed;
-        Err(why)
-    }
-
-    /// Sends out[from..to].
-    #[inline]
+    /// Sends out[from..to], which is owed.
+    #[inline(always)]
     fn send<C: Write + ?Sized>(&mut self, channel: &mut C, mut from: usize, to: usize) -> Result<(), Error> {
         while from < to {
-            match write(channel, &self.out[from..to]) {
-                Ok(n) => from += n,
-                Err(e) => return self.stop(Owed::Send(from, to), Error::channel(e)),
-            }
+            from += write(channel, &self.out[from..to]).map_err(Error::channel)?;
             self.moves += 1;
+            if from < to {
+                self.owed = Owed::Send(from, to);
+            }
         }
+        self.owed = Owed::Flush;
         self.flush(channel)
     }
 
-    /// Sends the image set's bytes from..to.
+    /// Sends the image set's bytes from..to, which are owed.
     fn send_image<C: Write + ?Sized>(&mut self, channel: &mut C, mut from: usize, to: usize) -> Result<(), Error> {
         while from < to {
-            match write(channel, &self.set.bytes()[from..to]) {
-                Ok(n) => from += n,
-                Err(e) => return self.stop(Owed::Image(from, to), Error::channel(e)),
-            }
+            from += write(channel, &self.set.bytes()[from..to]).map_err(Error::channel)?;
             self.moves += 1;
+            if from < to {
+                self.owed = Owed::Image(from, to);
+            }
         }
+        self.owed = Owed::Flush;
         self.flush(channel)
     }
 
-    #[inline]
+    #[inline(always)]
     fn flush<C: Write + ?Sized>(&mut self, channel: &mut C) -> Result<(), Error> {
-        if let Err(e) = again(|| channel.flush()) {
-            return self.stop(Owed::Flush, Error::channel(e));
-        }
+        again(|| channel.flush()).map_err(Error::channel)?;
+        self.owed = Owed::Nothing;
         self.moves += 1;
         Ok(())
     }
 
+    /// The original looks at no error here either: the empty packet may not come, and carries nothing.
     #[inline]
-    fn empty_read<C: Read + ?Sized>(&mut self, channel: &mut C) -> Result<(), Error> {
-        if let Err(e) = again(|| channel.read(&mut [])) {
-            return self.stop(Owed::EmptyRead, Error::channel(e));
+    fn empty_read<C: Read + ?Sized>(&mut self, channel: &mut C) {
+        let _ = again(|| channel.read(&mut []));
+        self.owed = Owed::Nothing;
+    }
+
+    /// Bytes of the open region that came: all of them, where its close is owed.
+    pub(crate) fn done(&self) -> u64 {
+        match self.session.phase() {
+            Phase::Region => self.session.raw().done,
+            _ => self.entry(self.place).len,
         }
-        self.moves += 1;
-        Ok(())
+    }
+
+    /// The entry of a region that the session opened in this table.
+    fn entry(&self, place: usize) -> Entry {
+        entry_at(&self.table, place).expect("an opened region has an entry")
     }
 
     fn open<S: Sink + ?Sized>(&mut self, sink: &mut S, place: usize) -> Result<(), Error> {
-        // the step found this entry in this table
-        let entry = entry_at(&self.table, place).expect("an opened region has an entry");
+        let entry = self.entry(place);
         self.place = place;
-        match again(|| sink.open(place, &entry)) {
-            Err(e) => self.stop(Owed::Open(place), Error::Sink(e)),
-            Ok(()) => Ok(()),
-        }
+        again(|| sink.open(place, &entry)).map_err(Error::Sink)?;
+        (self.region, self.owed) = (Region::Open, Owed::Nothing);
+        Ok(())
     }
 
-    /// Hands input[from..to] to the sink: the last bytes that the session counts as done.
-    #[inline]
-    fn hand<S, P>(&mut self, sink: &mut S, progress: &mut P, mut from: usize, to: usize) -> Result<(), Error>
-    where
-        S: Sink + ?Sized,
-        P: FnMut(Progress),
-    {
-        while from < to {
-            let bytes = &self.input[from..to];
-            match again(|| sink.bytes(bytes)).and_then(|n| judged(n, bytes.len())) {
-                Ok(n) => from += n,
-                Err(e) => return self.stop(Owed::Bytes(from, to), Error::Sink(e)),
+    /// A region of an earlier process goes on.
+    #[cold]
+    fn reopen<S: Sink + ?Sized>(&mut self, sink: &mut S) -> Result<(), Error> {
+        if self.region != Region::Before {
+            return Ok(());
+        }
+        let entry = self.entry(self.place);
+        let taken = self.done() - (self.from - self.kept) as u64;
+        match keeping(|| sink.reopen(self.place, &entry, taken)) {
+            Ok(()) => self.region = Region::Open,
+            Err(Unkept::Again(e)) => return Err(Error::Sink(e)),
+            Err(Unkept::Lost(e)) => {
+                self.region = Region::Lost;
+                return Err(Error::Sink(e));
             }
-            let s = self.session.raw();
-            progress(Progress { place: self.place, done: s.done - (to - from) as u64, len: s.len });
         }
         Ok(())
     }
 
-    fn close<S: Sink + ?Sized>(&mut self, sink: &mut S, place: usize) -> Result<(), Error> {
-        loop {
-            match sink.close(place) {
-                Err(Unkept::Again(e)) if e.kind() == ErrorKind::Interrupted => {}
-                Err(Unkept::Again(e) | Unkept::Lost(e)) => return self.stop(Owed::Close(place), Error::Sink(e)),
-                Ok(()) => return Ok(()),
+    fn close_region<S: Sink + ?Sized>(&mut self, sink: &mut S, place: usize) -> Result<(), Error> {
+        self.hand_over(sink)?;
+        let closed = match self.region {
+            Region::Lost => Ok(false),
+            _ => keeping(|| sink.close(place)).map(|()| true),
+        };
+        match closed {
+            Ok(true) => (self.region, self.owed) = (Region::None, Owed::Nothing),
+            Ok(false) => return self.fetch_again(place, sink),
+            Err(Unkept::Again(e)) => return Err(Error::Sink(e)),
+            Err(Unkept::Lost(e)) => {
+                // told now, and fetched again by the next call
+                self.region = Region::Lost;
+                return Err(Error::Sink(e));
             }
+        }
+        Ok(())
+    }
+
+    /// Back to where the region was opened. Its memory reads so far stay counted: they were sent.
+    #[cold]
+    fn fetch_again<S: Sink + ?Sized>(&mut self, place: usize, sink: &mut S) -> Result<(), Error> {
+        let entry = self.entry(place);
+        self.session = self.session.region_begun(place, &entry).expect("the region was open in this session");
+        (self.region, self.owed) = (Region::None, Owed::Open(place));
+        self.open(sink, place)
+    }
+
+    /// Hands input[kept..from] to the sink: the last bytes that the session counts as done.
+    #[inline(always)]
+    fn hand_over<S: Sink + ?Sized>(&mut self, sink: &mut S) -> Result<(), Error> {
+        if self.region == Region::Lost {
+            self.kept = self.from;
+        }
+        while self.kept < self.from {
+            let bytes = &self.input[self.kept..self.from];
+            let n = again(|| sink.bytes(bytes)).and_then(|n| judged(n, bytes.len())).map_err(Error::Sink)?;
+            self.kept += n;
+        }
+        Ok(())
+    }
+
+    /// The same before an error is returned; the sink's own has been.
+    #[cold]
+    fn hand_over_behind<S: Sink + ?Sized>(&mut self, why: &Error, sink: &mut S) -> Result<(), Error> {
+        match why {
+            Error::Sink(_) => Ok(()),
+            _ => self.hand_over(sink),
         }
     }
 
     /// Reads what the channel gives, at most `wanted` bytes: at least one.
     #[inline]
-    fn fill<C: Read + ?Sized>(&mut self, channel: &mut C, wanted: usize) -> Result<(), Error> {
-        let room = &mut self.input[..wanted.min(INPUT)];
+    fn fill<C, S>(&mut self, channel: &mut C, sink: &mut S, wanted: usize) -> Result<(), Error>
+    where
+        C: Read + ?Sized,
+        S: Sink + ?Sized,
+    {
+        let wanted = wanted.min(INPUT);
+        if self.to + wanted > INPUT {
+            self.hand_over(sink)?;
+        }
+        if self.kept == self.to {
+            (self.kept, self.from, self.to) = (0, 0, 0);
+        }
+        let room = &mut self.input[self.to..][..wanted];
         match again(|| channel.read(room)).map_err(Error::channel)? {
-            0 => Err(self.closed()),
-            n if n > room.len() => Err(Error::Channel(beyond())),
+            0 => Err(Error::NoBytes),
+            n if n > wanted => Err(Error::Channel(beyond())),
             n => {
-                (self.from, self.to) = (0, n);
+                self.to += n;
                 self.moves += 1;
                 Ok(())
             }
         }
     }
+}
 
-    /// The channel has ended.
-    #[cold]
-    fn closed(&mut self) -> Error {
-        match self.session.closed() {
-            Answer::Refused(why) => why.into(),
-            _ => Error::Channel(ErrorKind::UnexpectedEof.into()),
+impl Owed {
+    #[inline]
+    fn by(asked: Answer) -> Owed {
+        match asked {
+            Answer::Send(k) => Owed::Send(0, k),
+            Answer::Image { start, len } => Owed::Image(start, start + len),
+            Answer::Open(place) => Owed::Open(place),
+            Answer::EmptyRead => Owed::EmptyRead,
+            Answer::Close(place) => Owed::Close(place),
+            _ => Owed::Nothing,
         }
+    }
+}
+
+impl fmt::Debug for Driver {
+    fn fmt(&self, f: &mut fmt::Formatter<'_>) -> fmt::Result {
+        let unread = self.to - self.from;
+        let gathered = self.from - self.kept;
+        f.debug_struct("Driver")
+            .field("session", &self.session)
+            .field("owed", &self.owed)
+            .field("region", &self.region)
+            .field("gathered", &gathered)
+            .field("unread", &unread)
+            .finish_non_exhaustive()
     }
 }
 
@@ -421,6 +479,16 @@ fn again<T>(mut call: impl FnMut() -> io::Result<T>) -> io::Result<T> {
     loop {
         match call() {
             Err(e) if e.kind() == ErrorKind::Interrupted => {}
+            done => return done,
+        }
+    }
+}
+
+/// The same for a sink's close and reopen.
+fn keeping(mut call: impl FnMut() -> Result<(), Unkept>) -> Result<(), Unkept> {
+    loop {
+        match call() {
+            Err(Unkept::Again(e)) if e.kind() == ErrorKind::Interrupted => {}
             done => return done,
         }
     }
@@ -447,24 +515,17 @@ fn beyond() -> io::Error {
     io::Error::new(ErrorKind::InvalidData, "it says that it moved more bytes than it was lent")
 }
 
-/// Runs a host over a channel to its end: the one-shot form of [`Driver`], bearing so many time-outs in a row.
-#[allow(clippy::too_many_arguments)]
-pub fn sahara_run<C, S, P, N>(
-    channel: &mut C,
-    backend: Backend,
-    mode: Mode,
-    command: Option<Command>,
-    images: &[Option<Vec<u8>>],
-    names: &[N],
-    sink: &mut S,
-    progress: P,
-    timeouts: u32,
-) -> Result<Outcome, Error>
+/// The short form, for callers who give up at the first error: the run is dropped with it, and a device in mid-dump stays there. A channel
+/// that gives no bytes, more often in a row than the options bear, is closed: refused (23). Who wants to go on keeps a [`Driver`].
+pub fn sahara_run<C, S, P>(channel: &mut C, options: &Options, sink: &mut S, progress: P) -> Result<Outcome, Error>
 where
     C: Read + Write + ?Sized,
     S: Sink + ?Sized,
     P: FnMut(Progress),
-    N: AsRef<[u8]>,
 {
-    Driver::new(backend, mode, command, images, names)?.run_bearing(channel, sink, progress, timeouts)
+    let mut driver = options.start()?;
+    match driver.run(channel, sink, progress) {
+        Err(Error::NoBytes) => Err(driver.close(sink)?.into()),
+        end => end,
+    }
 }

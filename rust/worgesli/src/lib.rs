@@ -7,17 +7,29 @@
 
 mod bundle;
 mod driver;
+mod error;
 mod numbers;
+mod options;
 mod packet;
+mod packets;
 pub mod raw;
+mod saved;
+mod serial;
 mod session;
+mod sha256;
 mod sink;
 mod table;
+mod tty;
 
 pub use bundle::{ImageSet, NameList, SLOTS};
-pub use driver::{sahara_run, Driver, Error, Outcome, Progress, REPLY};
+pub use driver::{sahara_run, Driver, Outcome, Progress, REPLY};
+pub use error::Error;
 pub use numbers::{Answer, Backend, Command, Mode, Phase, Refusal};
+pub use options::Options;
 pub use packet::{parse_packet, reset, Body, Packet, Unk};
+pub use packets::Packets;
+pub use saved::RestoreError;
+pub use serial::Serial;
 pub use session::{Session, OUT, TABLE};
 pub use sink::{Count, Folder, Sink, Unkept};
 pub use table::{entry_at, next_selected, utf8, Entry, ENTRY};

@@ -1,5 +1,6 @@
 //! A session: what the host keeps from step to step.
-use crate::{raw, Answer, Backend, Command, Mode, Phase, Refusal};
+use crate::{raw, Answer, Backend, Command, Entry, Mode, Phase, Refusal};
+use std::fmt;
 
 /// The least out buffer.
 pub const OUT: usize = 48;
@@ -7,10 +8,11 @@ pub const OUT: usize = 48;
 pub const TABLE: usize = 65_536;
 
 /// A value: a copy of it is a session of its own.
-#[derive(Clone, Copy, Debug, PartialEq, Eq)]
+#[derive(Clone, Copy, PartialEq, Eq)]
 pub struct Session(raw::Session);
 
 impl Session {
+    /// A session just opened.
     pub fn open(mode: Mode, command: Option<Command>, backend: Backend) -> Session {
         let command = command.map_or(raw::NO_COMMAND, |c| c as u32);
         Session(raw::worgesli_open(mode as u32, command, backend as u32))
@@ -21,6 +23,7 @@ impl Session {
         raw::worgesli_is_session(numbers).then_some(Session(numbers))
     }
 
+    /// Its numbers.
     pub fn raw(&self) -> &raw::Session {
         &self.0
     }
@@ -59,6 +62,7 @@ impl Session {
         raw::wanted_in_place(&self.0)
     }
 
+    /// Where it stands.
     #[inline]
     pub fn phase(&self) -> Phase {
         match self.0.phase {
@@ -72,6 +76,18 @@ impl Session {
         }
     }
 
+    /// Whether it was opened with these.
+    pub(crate) fn opened_as(&self, mode: Mode, command: Option<Command>, backend: Backend) -> bool {
+        let opened = Session::open(mode, command, backend).0;
+        (self.0.mode, self.0.command, self.0.backend) == (opened.mode, opened.command, opened.backend)
+    }
+
+    /// The session behind a region's close, put back to where that region was opened. None where the numbers are no session's.
+    pub(crate) fn region_begun(&self, place: usize, entry: &Entry) -> Option<Session> {
+        let (phase, base, len) = (Phase::Region as u32, entry.base, entry.len);
+        Session::from_raw(raw::Session { phase, at: place, base, len, done: 0, outstanding: 0, due: 0, ..self.0 })
+    }
+
     /// Memory reads since opening.
     pub fn reads(&self) -> u64 {
         self.0.reads
@@ -83,6 +99,13 @@ impl Session {
             Phase::Switched | Phase::Ended => self.0.count,
             _ => 0,
         }
+    }
+}
+
+impl fmt::Debug for Session {
+    fn fmt(&self, f: &mut fmt::Formatter<'_>) -> fmt::Result {
+        let raw::Session { reads, count, at, done, len, .. } = self.0;
+        write!(f, "Session({:?}, count {count}, at {at}, {done} of {len} bytes, {reads} memory reads)", self.phase())
     }
 }
 

@@ -4,7 +4,7 @@ use device::{Device, Division, Memory, Region, Wire};
 use std::alloc::{GlobalAlloc, Layout, System};
 use std::cell::Cell;
 use std::ffi::c_void;
-use worgesli::{Backend, Command, Count, Driver, Mode, Outcome};
+use worgesli::{Backend, Command, Count, Mode, Options, Outcome};
 
 const PAGE: usize = 4096;
 
@@ -55,8 +55,6 @@ unsafe impl GlobalAlloc for Fence {
 #[global_allocator]
 static FENCE: Fence = Fence;
 
-const NO_IMAGES: &[Option<Vec<u8>>] = &[];
-const NO_NAMES: &[&str] = &[];
 
 #[test]
 fn images_and_replies() {
@@ -65,11 +63,11 @@ fn images_and_replies() {
         let all = image.len() as u32;
         let mut wire = Wire::new(Device::load(&[(0, 0, all), (0, all, 0), (0, 100, 400)], b""), Division::Random, seed);
         let names = ["a name", "another"];
-        let mut driver = Driver::new(Backend::Usb, Mode::WaitingForImage, None, &[Some(image)], &names).unwrap();
+        let mut driver = Options::new(Backend::Usb, Mode::WaitingForImage).images(&[Some(image)]).names(&names).start().unwrap();
         assert_eq!(driver.run(&mut wire, &mut Count::default(), |_| ()).unwrap(), Outcome::ImagesSent);
         let reply = vec![9; 65_536 - seed as usize];
         let mut wire = Wire::new(Device::command(1, &reply, b""), Division::Random, seed);
-        let mut driver = Driver::new(Backend::Usb, Mode::Command, Some(Command::ReadSerialNum), NO_IMAGES, NO_NAMES).unwrap();
+        let mut driver = Options::new(Backend::Usb, Mode::Command).command(Command::ReadSerialNum).start().unwrap();
         assert_eq!(driver.run(&mut wire, &mut Count::default(), |_| ()).unwrap(), Outcome::Reply(reply));
     }
 }
@@ -79,7 +77,7 @@ fn tables_of_each_length() {
     for len in [0, 1, 63, 64, 65, 4096, 65_472, 65_535, 65_536] {
         let memory = Memory::with_table(1, 1 << 40, vec![0; len]);
         let mut wire = Wire::new(Device::dump(memory), Division::Random, len as u64);
-        let mut driver = Driver::new(Backend::Usb, Mode::MemoryDebug, None, NO_IMAGES, NO_NAMES).unwrap();
+        let mut driver = Options::new(Backend::Usb, Mode::MemoryDebug).start().unwrap();
         assert_eq!(driver.run(&mut wire, &mut Count::default(), |_| ()).unwrap(), Outcome::Dumped { reads: 1 });
     }
 }
@@ -90,7 +88,7 @@ fn no_allocation_in_a_region() {
     let fetch = |len: u64, division| {
         let memory = Memory::new(1, 1 << 40, &[Region::new("A.BIN", 0, len)]);
         let mut wire = Wire::new(Device::dump(memory), division, 1);
-        let mut driver = Driver::new(Backend::Usb, Mode::MemoryDebug, None, NO_IMAGES, NO_NAMES).unwrap();
+        let mut driver = Options::new(Backend::Usb, Mode::MemoryDebug).start().unwrap();
         let mut sink = Count::default();
         let mut before = 0;
         driver

@@ -1,14 +1,18 @@
 //! The driver against channels and sinks that fail.
+use crate::saved::Gathering;
 use crate::world::{world, Kept, Record, World};
 use device::{Device, Division, Faults, Memory, Region, Turn, Wire};
 use std::io::{self, ErrorKind, Read, Write};
-use worgesli::{sahara_run, Answer, Backend, Command, Count, Driver, Entry, Error, Mode, Outcome, Phase, Session, Sink, Unkept};
+use worgesli::{sahara_run, Answer, Backend, Command, Count, Driver, Entry, Error, Mode, Options, Outcome, Phase, Session, Sink, Unkept};
 
 const NO_IMAGES: &[Option<Vec<u8>>] = &[];
-const NO_NAMES: &[&str] = &[];
+
+fn dump(backend: Backend) -> Options {
+    Options::new(backend, Mode::MemoryDebug)
+}
 
 fn driver(w: &World) -> Driver {
-    Driver::new(w.backend, Mode::MemoryDebug, None, NO_IMAGES, &w.names).unwrap()
+    w.options().start().unwrap()
 }
 
 fn wire(w: &World, seed: u64, faults: Faults) -> Wire {
@@ -61,20 +65,20 @@ fn time_outs_in_images_and_replies() {
         let mut rng = device::Rng::new(seed);
         let mut bytes = vec![0; rng.below(6000) as usize];
         rng.fill(&mut bytes);
-        let run = |device, mode, command, images: &[Option<Vec<u8>>]| {
+        let run = |device, options: Options| {
             let mut wire = Wire::new(device, Division::Random, seed).with(faults);
-            let mut driver = Driver::new(Backend::Usb, mode, command, images, NO_NAMES).unwrap();
+            let mut driver = options.start().unwrap();
             let (outcome, _) = run_on(&mut driver, &mut wire, &mut Record::default());
             (outcome, wire.device.heard().to_vec(), wire.device.queued())
         };
         let n = bytes.len() as u32;
         let device = Device::load(&[(5, 0, n), (5, n / 2, n - n / 2)], b"loader");
-        let (outcome, heard, left) = run(device, Mode::WaitingForImage, None, &[Some(bytes.clone())]);
+        let (outcome, heard, left) = run(device, Options::new(Backend::Usb, Mode::WaitingForImage).images(&[Some(bytes.clone())]));
         assert_eq!((outcome, left), (Outcome::ImagesSent, 6));
         let sent = [&bytes[..], &bytes[n as usize / 2..], &device::packet(5, &[])].concat();
         assert!(heard[48..] == sent, "seed {seed}");
         let device = Device::command(1, &bytes, b"next");
-        let (outcome, heard, left) = run(device, Mode::Command, Some(Command::ReadSerialNum), NO_IMAGES);
+        let (outcome, heard, left) = run(device, Options::new(Backend::Usb, Mode::Command).command(Command::ReadSerialNum));
         assert_eq!((outcome, left), (Outcome::Reply(bytes), 4));
         assert_eq!(heard[48..], [device::packet(0x0d, &[1]), device::packet(0x0f, &[1]), device::packet(0x0c, &[0])].concat());
     }
@@ -107,7 +111,7 @@ fn time_outs_in_a_row() {
         let regions = [Region::new("A.BIN", 0, 9000)];
         let mut channel = Silent(Wire::new(Device::dump(Memory::new(1, 1 << 40, &regions)), Division::AtMost(1000), 1), 3);
         let mut sink = Count::default();
-        let end = sahara_run(&mut channel, Backend::Usb, Mode::MemoryDebug, None, NO_IMAGES, NO_NAMES, &mut sink, |_| (), borne);
+        let end = sahara_run(&mut channel, &dump(Backend::Usb).timeouts(borne), &mut sink, |_| ());
         match end {
             Ok(end) => assert_eq!((end, sink.bytes, good), (Outcome::Dumped { reads: 4 }, 9000, true)),
             Err(e) => assert!(matches!(e, Error::TimedOut(_)) && !good, "{e}"),
@@ -115,7 +119,8 @@ fn time_outs_in_a_row() {
     }
 }
 
-/// A device that is gone, after any byte: 23, and what came so far is the beginning of what was due.
+/// A device that is gone, after any byte: no bytes as often as it is asked, 23 when the session is closed, and what came so far is the
+/// beginning of what was due.
 #[test]
 fn gone_after_each_byte() {
     let regions = [Region::new("A.BIN", 77, 600), Region::new("B.BIN", 9, 0), Region::new("C.BIN", 1 << 63, 513)];
@@ -133,12 +138,75 @@ fn gone_after_each_byte() {
                 assert_eq!(sink.0, w.kept());
                 continue;
             }
-            assert_eq!(ended.unwrap_err().number(), Some(23));
-            assert_eq!(driver.session().phase(), Phase::Ended);
+            assert!(matches!(ended, Err(Error::NoBytes)));
+            assert!(matches!(driver.run(&mut wire, &mut sink, |_| ()), Err(Error::NoBytes)));
+            assert_ne!(driver.session().phase(), Phase::Ended);
+            assert_eq!(driver.close(&mut sink).unwrap().number(), 23);
+            assert_eq!(driver.close(&mut sink).unwrap().number(), 4);
             assert_eq!(driver.run(&mut wire, &mut sink, |_| ()).unwrap_err().number(), Some(4));
             beginning(&sink.0, &w.kept(), end.saturating_sub(48 + 24 + 192));
         }
     }
+}
+
+/// What was gathered is the sink's when a call ends, whatever ended it: nobody must come back for it.
+#[test]
+fn gathered_bytes_are_handed_over() {
+    let regions = [Region::new("A.BIN", 77, 9000)];
+    let w = World { memory: Memory::new(5, 1 << 40, &regions), regions: regions.to_vec(), names: vec![], backend: Backend::Usb };
+    let before = 48 + 24 + 64;
+    for end in before..before + 9000 {
+        let faults = match end % 3 {
+            0 => Faults { ends_after: Some(end), ..Faults::default() },
+            1 => Faults { fails_after: Some((end, ErrorKind::BrokenPipe)), ..Faults::default() },
+            _ => Faults { fails_after: Some((end, ErrorKind::TimedOut)), ..Faults::default() },
+        };
+        let mut wire = wire(&w, end, faults);
+        let mut sink = Gathering(Record::default(), 65_536);
+        let mut run = driver(&w);
+        assert!(run.run(&mut wire, &mut sink, |_| ()).is_err());
+        beginning(&sink.0 .0, &w.kept(), end - before);
+    }
+    // and a whole fetch is handed over in few calls
+    struct Calls(u64, u64);
+    impl Sink for Calls {
+        fn open(&mut self, _: usize, _: &Entry) -> io::Result<()> {
+            Ok(())
+        }
+        fn bytes(&mut self, bytes: &[u8]) -> io::Result<usize> {
+            (self.0, self.1) = (self.0 + 1, self.1 + bytes.len() as u64);
+            Ok(bytes.len())
+        }
+        fn close(&mut self, _: usize) -> Result<(), Unkept> {
+            Ok(())
+        }
+        fn gathers(&self) -> usize {
+            65_536
+        }
+    }
+    let memory = Memory::new(1, 1 << 40, &[Region::new("A", 0, 1 << 20)]);
+    let mut wire = Wire::new(Device::dump(memory), Division::AtMost(512), 1);
+    let mut sink = Calls(0, 0);
+    sahara_run(&mut wire, &dump(Backend::Usb), &mut sink, |_| ()).unwrap();
+    assert_eq!((sink.0, sink.1), (16, 1 << 20));
+}
+
+/// Errors say what they are where a `main` returns them, and nothing prints what was fetched.
+#[test]
+fn what_is_printed() {
+    let refused = Error::from(Options::new(Backend::Usb, Mode::Command).names(vec!["a"; 65]).start().unwrap_err());
+    assert_eq!(format!("{refused:?}"), refused.to_string());
+    assert!(refused.to_string().starts_with("refused (2): the name list is malformed"));
+    let options = dump(Backend::Usb).images(&[Some(vec![0xa5; 5000])]).names(["secret"]);
+    let regions = [Region::new("A.BIN", 77, 9000)];
+    let mut wire = Wire::new(Device::dump(Memory::new(5, 1 << 40, &regions)), Division::AtMost(1000), 1);
+    let mut run = options.start().unwrap();
+    for _ in 0..5 {
+        run.step(&mut wire, &mut Count::default(), |_| ()).unwrap();
+    }
+    let (run, options) = (format!("{run:?}"), format!("{options:?}"));
+    assert!(run.contains("Between") && run.len() < 400, "{run}");
+    assert!(options.len() < 300 && !options.contains("165") && !options.contains("115, 101"), "{options}");
 }
 
 /// `came` is a beginning of `due` and has so many bytes.
@@ -260,7 +328,7 @@ fn liars() {
         Error::Channel(e) | Error::Sink(e) => e.kind(),
         e => panic!("{e}"),
     };
-    let new = || Driver::new(Backend::Serial, Mode::MemoryDebug, None, NO_IMAGES, NO_NAMES).unwrap();
+    let new = || dump(Backend::Serial).start().unwrap();
     for read in [9, 100_000, usize::MAX] {
         let mut channel = Liar { read, written: 48 };
         assert_eq!(kind(new().run(&mut channel, &mut Count::default(), |_| ())), ErrorKind::InvalidData);
@@ -294,15 +362,15 @@ fn liars() {
     }
 }
 
-/// An empty read that times out is made again, or counted as made.
+/// An empty read is made once, whatever becomes of it: the original looks at no error there either.
 #[test]
-fn empty_reads_that_time_out() {
-    struct NoEmptyPackets(Wire, u32);
+fn empty_reads_that_fail() {
+    struct NoEmptyPackets(Wire, ErrorKind, u32);
     impl Read for NoEmptyPackets {
         fn read(&mut self, to: &mut [u8]) -> io::Result<usize> {
-            if to.is_empty() && self.1 > 0 {
-                self.1 -= 1;
-                return Err(ErrorKind::TimedOut.into());
+            if to.is_empty() {
+                self.2 += 1;
+                return Err(self.1.into());
             }
             self.0.read(to)
         }
@@ -315,29 +383,12 @@ fn empty_reads_that_time_out() {
             self.0.flush()
         }
     }
-    for skip in [false, true] {
+    for kind in [ErrorKind::TimedOut, ErrorKind::WouldBlock, ErrorKind::BrokenPipe, ErrorKind::InvalidInput, ErrorKind::Other] {
         let memory = Memory::new(1, 1 << 40, &[Region::new("A", 0, 8192)]);
-        let mut channel = NoEmptyPackets(Wire::new(Device::dump(memory), Division::Random, 1), 2);
-        let mut driver = Driver::new(Backend::Usb, Mode::MemoryDebug, None, NO_IMAGES, NO_NAMES).unwrap();
+        let mut channel = NoEmptyPackets(Wire::new(Device::dump(memory), Division::Random, 1), kind, 0);
         let mut sink = Count::default();
-        for _ in 0..2 {
-            assert!(matches!(driver.run(&mut channel, &mut sink, |_| ()), Err(Error::TimedOut(_))));
-            if skip {
-                driver.skip_empty_read();
-            }
-        }
-        assert_eq!(driver.run(&mut channel, &mut sink, |_| ()).unwrap(), Outcome::Dumped { reads: 3 });
-        assert_eq!((sink.bytes, channel.0.empty_reads), (8192, if skip { 0 } else { 2 }));
-    }
-    // none ever comes: the one-shot form goes on without it
-    for timeouts in [0, 3] {
-        let memory = Memory::new(1, 1 << 40, &[Region::new("A", 0, 8192)]);
-        let mut channel = NoEmptyPackets(Wire::new(Device::dump(memory), Division::Random, 1), u32::MAX);
-        let mut sink = Count::default();
-        let end =
-            sahara_run(&mut channel, Backend::Usb, Mode::MemoryDebug, None, NO_IMAGES, NO_NAMES, &mut sink, |_| (), timeouts);
-        assert_eq!(end.unwrap(), Outcome::Dumped { reads: 3 });
-        assert_eq!((sink.bytes, u32::MAX - channel.1), (8192, 2 * (timeouts + 1)));
+        assert_eq!(sahara_run(&mut channel, &dump(Backend::Usb), &mut sink, |_| ()).unwrap(), Outcome::Dumped { reads: 3 });
+        assert_eq!((sink.bytes, channel.2), (8192, 2));
     }
 }
 
@@ -348,7 +399,7 @@ fn refused(said: Vec<u8>, mode: Mode, images: &[Option<Vec<u8>>]) -> u8 {
         let mut wire = Wire::new(Device::new(Memory::empty(), vec![Turn::Say(said.clone())]), division, 9);
         wire.faults.ends_after = Some(said.len() as u64);
         let mut sink = Count::default();
-        let end = sahara_run(&mut wire, Backend::Serial, mode, None, images, NO_NAMES, &mut sink, |_| (), 0);
+        let end = sahara_run(&mut wire, &Options::new(Backend::Serial, mode).images(images), &mut sink, |_| ());
         let e = end.unwrap_err();
         let number = e.number().unwrap();
         assert!(e.to_string().starts_with(&format!("refused ({number}): ")), "{e}");
@@ -416,7 +467,7 @@ fn refusals_of_a_region() {
             let memory = Memory::new(seed, 1 << 40, &[good, region]);
             let mut wire = Wire::new(Device::dump(memory.clone()), Division::Random, seed);
             let mut sink = Record::default();
-            let end = sahara_run(&mut wire, Backend::Usb, Mode::MemoryDebug, None, NO_IMAGES, NO_NAMES, &mut sink, |_| (), 0);
+            let end = sahara_run(&mut wire, &dump(Backend::Usb), &mut sink, |_| ());
             assert_eq!(end.unwrap_err().number(), Some(number));
             assert_eq!(sink.0[0].bytes, memory.bytes(3, 5000));
             assert_eq!((sink.0.len(), wire.device.reads()), (if number < 21 { 1 } else { 2 }, 3));

@@ -1,14 +1,11 @@
 //! The driver against the device, over divisions at random.
 use crate::world::{world, Record, World};
 use device::{Device, Division, Memory, Region, Rng, Wire};
-use worgesli::{sahara_run, Backend, Command, Count, Driver, Mode, Outcome, Progress};
-
-const NO_IMAGES: &[Option<Vec<u8>>] = &[];
-const NO_NAMES: &[&str] = &[];
+use worgesli::{sahara_run, Backend, Command, Count, Mode, Options, Outcome, Progress};
 
 fn fetch(w: &World, wire: &mut Wire) -> Record {
     let mut sink = Record::default();
-    let dumped = sahara_run(wire, w.backend, Mode::MemoryDebug, None, NO_IMAGES, &w.names, &mut sink, |_| (), 0).unwrap();
+    let dumped = sahara_run(wire, &w.options(), &mut sink, |_| ()).unwrap();
     assert_eq!(dumped, Outcome::Dumped { reads: w.memory_reads() });
     sink
 }
@@ -40,7 +37,7 @@ fn hello_response() {
     for mode in [Mode::WaitingForImage, Mode::MemoryDebug, Mode::Command] {
         let turns = vec![device::Turn::Say(device::hello(2)), device::Turn::Hear(48), device::Turn::Say(device::reset_resp())];
         let mut wire = Wire::new(Device::new(Memory::empty(), turns), Division::Random, 3);
-        let end = sahara_run(&mut wire, Backend::Usb, mode, None, NO_IMAGES, NO_NAMES, &mut Count::default(), |_| (), 0);
+        let end = sahara_run(&mut wire, &Options::new(Backend::Usb, mode), &mut Count::default(), |_| ());
         assert_eq!(end.unwrap(), Outcome::Reset);
         assert_eq!(wire.device.heard(), device::packet(2, &[2, 1, 0, mode as u32, 0, 0, 0, 0, 0, 0]));
     }
@@ -73,7 +70,7 @@ fn images_and_the_loader_after_them() {
         let mut wire = Wire::new(Device::load(&asked, loader), Division::Random, seed);
         wire.faults.short_writes = true;
         let mut sink = Count::default();
-        let end = sahara_run(&mut wire, Backend::Serial, Mode::WaitingForImage, None, &images, NO_NAMES, &mut sink, |_| (), 0);
+        let end = sahara_run(&mut wire, &Options::new(Backend::Serial, Mode::WaitingForImage).images(&images), &mut sink, |_| ());
         assert_eq!(end.unwrap(), Outcome::ImagesSent, "seed {seed}");
         let heard = wire.device.heard();
         assert_eq!(&heard[48..heard.len() - 8], sent, "seed {seed}");
@@ -93,9 +90,8 @@ fn replies() {
         Rng::new(seed as u64).fill(&mut reply);
         let next = device::hello(0);
         let mut wire = Wire::new(Device::command(3, &reply, &next), Division::Random, seed as u64);
-        let command = Some(Command::ReadOemKeyHash);
-        let end =
-            sahara_run(&mut wire, Backend::Usb, Mode::Command, command, NO_IMAGES, NO_NAMES, &mut Count::default(), |_| (), 0);
+        let options = Options::new(Backend::Usb, Mode::Command).command(Command::ReadOemKeyHash);
+        let end = sahara_run(&mut wire, &options, &mut Count::default(), |_| ());
         assert_eq!(end.unwrap(), Outcome::Reply(reply));
         let (hello, said) = wire.device.heard().split_at(48);
         assert_eq!(hello[20], 3);
@@ -111,7 +107,7 @@ fn progress() {
     let regions = [Region::new("A", 0, 10_000), Region::new("B", 1 << 40, 4096), Region::new("C", 5, 0)];
     let mut wire = Wire::new(Device::dump(Memory::new(1, 1 << 50, &regions)), Division::Random, 1);
     let mut seen: Vec<Progress> = Vec::new();
-    let mut driver = Driver::new(Backend::Usb, Mode::MemoryDebug, None, NO_IMAGES, NO_NAMES).unwrap();
+    let mut driver = Options::new(Backend::Usb, Mode::MemoryDebug).start().unwrap();
     driver.run(&mut wire, &mut Count::default(), |p| seen.push(p)).unwrap();
     for (place, len) in [(0, 10_000), (1, 4096)] {
         let of: Vec<u64> = seen.iter().filter(|p| p.place == place && p.len == len).map(|p| p.done).collect();
@@ -130,7 +126,7 @@ fn over_a_socket() {
         let device = Device::dump(w.memory.clone());
         let thread = std::thread::spawn(move || device::serve(device, far, seed).unwrap());
         let mut sink = Record::default();
-        let end = sahara_run(&mut host, w.backend, Mode::MemoryDebug, None, NO_IMAGES, &w.names, &mut sink, |_| (), 0);
+        let end = sahara_run(&mut host, &w.options(), &mut sink, |_| ());
         assert_eq!(end.unwrap(), Outcome::Dumped { reads: w.memory_reads() });
         assert_eq!(host.empty_reads, w.empty_reads());
         drop(host);

@@ -4,7 +4,7 @@ use std::fs;
 use std::io::ErrorKind;
 use std::path::PathBuf;
 use std::sync::atomic::{AtomicU32, Ordering};
-use worgesli::{Backend, Driver, Entry, Error, Folder, Mode, Outcome, Sink};
+use worgesli::{Backend, Entry, Error, Folder, Mode, Options, Outcome, Sink};
 
 /// A folder of its own for each test, gone afterwards.
 struct Temporary(PathBuf);
@@ -35,8 +35,7 @@ impl Drop for Temporary {
 fn fetch(regions: &[Region], sink: &mut Folder) -> (Memory, Result<Outcome, Error>) {
     let memory = Memory::new(8, 1 << 50, regions);
     let mut wire = Wire::new(Device::dump(memory.clone()), Division::Random, 8);
-    let none: &[&str] = &[];
-    let mut driver = Driver::new(Backend::Usb, Mode::MemoryDebug, None, &[], none).unwrap();
+    let mut driver = Options::new(Backend::Usb, Mode::MemoryDebug).start().unwrap();
     (memory, driver.run(&mut wire, sink, |_| ()))
 }
 

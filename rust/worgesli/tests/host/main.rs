@@ -1,9 +1,12 @@
 //! The host against the simulated device, and against bad input.
 mod bad_input;
+mod channels;
 mod faults;
 mod fetch;
 mod files;
 mod guard;
 mod operations;
+mod panics;
+mod saved;
 mod steps;
 mod world;

@@ -1,7 +1,7 @@
 //! Devices with memory at random, what a fetch from them must give, and a sink that keeps it.
 use device::{Memory, Region, Rng};
 use std::io;
-use worgesli::{Backend, Entry, Sink, Unkept};
+use worgesli::{Backend, Entry, Mode, Options, Sink, Unkept};
 
 /// A region as it came out: its place, its entry's filename, its bytes, and whether it was closed.
 #[derive(Clone, Debug, PartialEq, Eq)]
@@ -31,6 +31,11 @@ impl Sink for Record {
         let last = self.0.last_mut().unwrap();
         assert_eq!((last.place, last.closed), (place, false));
         last.closed = true;
+        Ok(())
+    }
+    fn reopen(&mut self, place: usize, entry: &Entry, taken: u64) -> Result<(), Unkept> {
+        let last = self.0.last().unwrap();
+        assert_eq!((last.place, last.closed, last.filename, last.bytes.len() as u64), (place, false, entry.filename, taken));
         Ok(())
     }
 }
@@ -78,6 +83,11 @@ pub fn world(seed: u64) -> World {
 }
 
 impl World {
+    /// A dump of the regions that are asked for.
+    pub fn options(&self) -> Options {
+        Options::new(self.backend, Mode::MemoryDebug).names(&self.names)
+    }
+
     /// Places of the regions to be dumped, in the table's order.
     pub fn selected(&self) -> Vec<usize> {
         let named = |r: &Region| {

@@ -1,0 +1,261 @@
+//! A run written to bytes, and read back in another process.
+//!
+//! Everything that a [`Driver`] holds between two calls but its images and names, of which a digest is kept: a run goes on with those it began with.
+//! Numbers are little-endian. The last 32 bytes are the SHA-256 of all before them, so that a file that was cut short or changed is not taken for a run.
+use crate::driver::{Owed, Region, INPUT};
+use crate::session::{OUT, TABLE};
+use crate::sha256::Sha256;
+use crate::{raw, Driver, ImageSet, NameList, Options, Phase, Refusal, Session};
+use std::fmt;
+
+const MAGIC: &[u8; 8] = b"worgesli";
+/// The form of the bytes: another where a session or what is kept beside it is another.
+const VERSION: u64 = 1;
+const DIGEST: usize = 32;
+
+/// Why bytes are no run to go on with. `Debug` says what `Display` says.
+#[derive(Clone, Copy, PartialEq, Eq)]
+#[non_exhaustive]
+pub enum RestoreError {
+    /// cut short, changed, or never a saved run
+    Damaged,
+    /// saved by another version of this crate
+    Version(u64),
+    /// saved of a run with another mode, command or backend
+    OtherOpening,
+    /// saved of a run with other images or names
+    OtherBundles,
+    /// the options' images or names are refused
+    Refused(Refusal),
+}
+
+impl fmt::Display for RestoreError {
+    fn fmt(&self, f: &mut fmt::Formatter<'_>) -> fmt::Result {
+        match self {
+            RestoreError::Damaged => write!(f, "these bytes are no saved run, or not all of one"),
+            RestoreError::Version(v) => write!(f, "the run was saved in form {v}, and this is form {VERSION}"),
+            RestoreError::OtherOpening => write!(f, "the run was opened with another mode, command or backend"),
+            RestoreError::OtherBundles => write!(f, "the run was opened with other images or names"),
+            RestoreError::Refused(why) => why.fmt(f),
+        }
+    }
+}
+
+impl fmt::Debug for RestoreError {
+    fn fmt(&self, f: &mut fmt::Formatter<'_>) -> fmt::Result {
+        fmt::Display::fmt(self, f)
+    }
+}
+
+impl std::error::Error for RestoreError {}
+
+fn digest(parts: &[&[u8]]) -> [u8; DIGEST] {
+    let mut sha = Sha256::new();
+    parts.iter().for_each(|part| sha.update(part));
+    sha.finish()
+}
+
+/// Of the image set and the names; where one ends is in its own bytes.
+fn bundles(set: &ImageSet, names: &NameList) -> [u8; DIGEST] {
+    digest(&[set.bytes(), names.bytes()])
+}
+
+fn put(to: &mut Vec<u8>, numbers: &[u64]) {
+    numbers.iter().for_each(|n| to.extend(n.to_le_bytes()));
+}
+
+/// A length and the bytes.
+fn put_bytes(to: &mut Vec<u8>, bytes: &[u8]) {
+    put(to, &[bytes.len() as u64]);
+    to.extend(bytes);
+}
+
+/// Reads from the front; None where there are too few bytes.
+struct From<'a>(&'a [u8]);
+
+impl<'a> From<'a> {
+    fn take(&mut self, len: usize) -> Option<&'a [u8]> {
+        let (front, rest) = self.0.split_at_checked(len)?;
+        self.0 = rest;
+        Some(front)
+    }
+
+    fn number(&mut self) -> Option<u64> {
+        Some(u64::from_le_bytes(self.take(8)?.try_into().ok()?))
+    }
+
+    fn size(&mut self) -> Option<usize> {
+        self.number()?.try_into().ok()
+    }
+
+    /// At most so many.
+    fn bytes(&mut self, most: usize) -> Option<&'a [u8]> {
+        let len = self.size()?;
+        if len > most {
+            return None;
+        }
+        self.take(len)
+    }
+}
+
+fn put_session(to: &mut Vec<u8>, s: &raw::Session) {
+    let head = [s.mode, s.command, s.backend, s.phase].map(u64::from);
+    put(to, &head);
+    put(to, &[s.reads, s.count as u64, s.at as u64, s.base, s.len, s.done, s.outstanding, s.due]);
+    to.extend(s.window);
+}
+
+fn session(from: &mut From) -> Option<raw::Session> {
+    let mut word = || u32::try_from(from.number()?).ok();
+    let (mode, command, backend, phase) = (word()?, word()?, word()?, word()?);
+    Some(raw::Session {
+        mode,
+        command,
+        backend,
+        phase,
+        reads: from.number()?,
+        count: from.size()?,
+        at: from.size()?,
+        base: from.number()?,
+        len: from.number()?,
+        done: from.number()?,
+        outstanding: from.number()?,
+        due: from.number()?,
+        window: from.take(48)?.try_into().ok()?,
+    })
+}
+
+impl Owed {
+    fn numbers(self) -> [u64; 3] {
+        match self {
+            Owed::Nothing => [0, 0, 0],
+            Owed::Send(from, to) => [1, from as u64, to as u64],
+            Owed::Image(from, to) => [2, from as u64, to as u64],
+            Owed::Flush => [3, 0, 0],
+            Owed::EmptyRead => [4, 0, 0],
+            Owed::Open(place) => [5, place as u64, 0],
+            Owed::Close(place) => [6, place as u64, 0],
+        }
+    }
+
+    fn of(tag: u64, first: usize, second: usize) -> Option<Owed> {
+        Some(match tag {
+            0 => Owed::Nothing,
+            1 => Owed::Send(first, second),
+            2 => Owed::Image(first, second),
+            3 => Owed::Flush,
+            4 => Owed::EmptyRead,
+            5 => Owed::Open(first),
+            6 => Owed::Close(first),
+            _ => return None,
+        })
+    }
+}
+
+/// What the buffers hold: the table's and the reply's declared bytes.
+fn declared(s: &Session) -> (usize, usize) {
+    match s.phase() {
+        Phase::Table | Phase::Between | Phase::Region => (s.raw().count, 0),
+        Phase::Response | Phase::Switched | Phase::Ended => (0, s.raw().count),
+        Phase::Packet => (0, 0),
+    }
+}
+
+impl Driver {
+    /// The run as bytes, to be read back by [`Options::restore`]. The channel must not move in between: what this run has read is in the
+    /// bytes, and what it goes on to read is not. A file of them is whole only when it is synced.
+    pub fn save(&self) -> Vec<u8> {
+        let mut to = MAGIC.to_vec();
+        put(&mut to, &[VERSION]);
+        to.extend(bundles(&self.set, &self.names));
+        put_session(&mut to, self.session.raw());
+        put(&mut to, &self.owed.numbers());
+        let region = match self.region {
+            Region::None => 0,
+            Region::Open | Region::Before => 1,
+            Region::Lost => 2,
+        };
+        put(&mut to, &[region, self.place as u64]);
+        let (table, reply) = declared(&self.session);
+        put_bytes(&mut to, &self.table[..table.min(TABLE)]);
+        put(&mut to, &[self.reply.len() as u64]);
+        put_bytes(&mut to, &self.reply[..reply.min(self.reply.len())]);
+        to.extend(&self.out);
+        put_bytes(&mut to, &self.input[self.kept..self.from]);
+        put_bytes(&mut to, &self.input[self.from..self.to]);
+        let sum = digest(&[&to]);
+        to.extend(sum);
+        to
+    }
+}
+
+impl Options {
+    /// A run that was [saved](Driver::save), perhaps by another process. The options are those that it was started with; the reply's length
+    /// is the saved one. A region that was begun goes on in the sink by [`Sink::reopen`](crate::Sink::reopen).
+    pub fn restore(&self, saved: &[u8]) -> Result<Driver, RestoreError> {
+        let (set, names) = self.bundles().map_err(RestoreError::Refused)?;
+        let len = saved.len().checked_sub(DIGEST).ok_or(RestoreError::Damaged)?;
+        let (body, sum) = saved.split_at(len);
+        let mut from = From(body.strip_prefix(MAGIC).ok_or(RestoreError::Damaged)?);
+        if digest(&[body]) != sum {
+            return Err(RestoreError::Damaged);
+        }
+        match from.number() {
+            Some(VERSION) => {}
+            version => return Err(version.map_or(RestoreError::Damaged, RestoreError::Version)),
+        }
+        if from.take(DIGEST) != Some(&bundles(&set, &names)) {
+            return Err(RestoreError::OtherBundles);
+        }
+        let session = session(&mut from).and_then(Session::from_raw).ok_or(RestoreError::Damaged)?;
+        if !session.opened_as(self.mode, self.command, self.backend) {
+            return Err(RestoreError::OtherOpening);
+        }
+        let driver = Driver::with(session, set, names, 0, self.timeouts);
+        restored(driver, from).ok_or(RestoreError::Damaged)
+    }
+}
+
+/// The driver with the rest of what was saved.
+fn restored(mut d: Driver, mut from: From) -> Option<Driver> {
+    d.owed = Owed::of(from.number()?, from.size()?, from.size()?)?;
+    d.region = match from.number()? {
+        0 => Region::None,
+        1 => Region::Before,
+        2 => Region::Lost,
+        _ => return None,
+    };
+    d.place = from.size()?;
+    let table = from.bytes(TABLE)?;
+    d.table[..table.len()].copy_from_slice(table);
+    let room = from.size()?;
+    let reply = from.bytes(room)?;
+    // no longer than a reply can be declared, so that no length makes us reserve what is not there
+    if room > u32::MAX as usize {
+        return None;
+    }
+    d.reply = vec![0; room].into();
+    d.reply[..reply.len()].copy_from_slice(reply);
+    d.out.copy_from_slice(from.take(OUT)?);
+    let kept = from.bytes(INPUT)?;
+    let unread = from.bytes(INPUT - kept.len())?;
+    (d.from, d.to) = (kept.len(), kept.len() + unread.len());
+    d.input[..d.from].copy_from_slice(kept);
+    d.input[d.from..d.to].copy_from_slice(unread);
+    (from.0.is_empty() && sound(&d)).then_some(d)
+}
+
+/// What is owed fits the buffers and the table, and no more is gathered than came of the open region.
+fn sound(d: &Driver) -> bool {
+    let entry = |place| crate::entry_at(&d.table, place).is_some();
+    let owed = match d.owed {
+        Owed::Send(from, to) => from <= to && to <= d.out.len(),
+        Owed::Image(from, to) => from <= to && to <= d.set.bytes().len(),
+        Owed::Open(place) | Owed::Close(place) => entry(place),
+        _ => true,
+    };
+    owed && match d.region {
+        Region::None => d.from == 0,
+        _ => entry(d.place) && d.from as u64 <= d.done(),
+    }
+}

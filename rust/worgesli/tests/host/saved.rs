@@ -1,0 +1,200 @@
+//! Runs that are written to bytes and read back, and regions that are lost.
+use crate::world::{world, Record};
+use device::{Device, Division, Faults, Memory, Region, Rng, Wire};
+use std::io::{self, ErrorKind};
+use worgesli::{Backend, Command, Count, Driver, Entry, Error, Mode, Options, Outcome, RestoreError, Sink, Unkept};
+
+/// A sink with a gathering of its own.
+pub struct Gathering<S>(pub S, pub usize);
+
+impl<S: Sink> Sink for Gathering<S> {
+    fn open(&mut self, place: usize, entry: &Entry) -> io::Result<()> {
+        self.0.open(place, entry)
+    }
+    fn bytes(&mut self, bytes: &[u8]) -> io::Result<usize> {
+        self.0.bytes(bytes)
+    }
+    fn close(&mut self, place: usize) -> Result<(), Unkept> {
+        self.0.close(place)
+    }
+    fn reopen(&mut self, place: usize, entry: &Entry, taken: u64) -> Result<(), Unkept> {
+        self.0.reopen(place, entry, taken)
+    }
+    fn gathers(&self) -> usize {
+        self.1
+    }
+}
+
+/// A step at a time, each in a driver of its own that knows nothing but the bytes of the one before: in dumps, with time-outs and short writes.
+#[test]
+fn saved_behind_every_step() {
+    for seed in 0..400 {
+        let w = world(seed);
+        let faults = Faults { timed_out: 100, would_block: 50, short_writes: true, buffered: false, ..Faults::default() };
+        let mut wire = Wire::new(Device::dump(w.memory.clone()), Division::Random, seed).with(faults);
+        let mut sink = Gathering(Record::default(), [0, 700, 65_536][seed as usize % 3]);
+        let mut run = w.options().start().unwrap();
+        let end = loop {
+            match run.step(&mut wire, &mut sink, |_| ()) {
+                Ok(Some(end)) => break end,
+                Ok(None) | Err(Error::TimedOut(_)) => {}
+                Err(e) => panic!("{e}"),
+            }
+            run = w.options().restore(&run.save()).unwrap();
+        };
+        assert_eq!(end, Outcome::Dumped { reads: w.memory_reads() });
+        assert_eq!(sink.0 .0, w.kept(), "seed {seed}");
+        assert_eq!((wire.device.wrong(), wire.device.queued()), (None, 0));
+    }
+}
+
+/// The same where images are loaded and where a command is answered.
+#[test]
+fn saved_images_and_replies() {
+    let mut bytes = vec![0; 6000];
+    Rng::new(3).fill(&mut bytes);
+    let load = Options::new(Backend::Usb, Mode::WaitingForImage).images(&[Some(bytes.clone())]);
+    let ask = Options::new(Backend::Usb, Mode::Command).command(Command::ReadSerialNum).reply(7000);
+    let devices = [Device::load(&[(1, 0, 6000), (1, 50, 100)], b"loader"), Device::command(1, &bytes, b"next")];
+    let ends = [Outcome::ImagesSent, Outcome::Reply(bytes.clone())];
+    for ((options, device), due) in [load, ask].into_iter().zip(devices).zip(ends) {
+        let faults = Faults { timed_out: 300, short_writes: true, ..Faults::default() };
+        let mut wire = Wire::new(device, Division::Random, 1).with(faults);
+        let mut run = options.start().unwrap();
+        let end = loop {
+            match run.step(&mut wire, &mut Count::default(), |_| ()) {
+                Ok(Some(end)) => break end,
+                Ok(None) | Err(Error::TimedOut(_)) => run = options.restore(&run.save()).unwrap(),
+                Err(e) => panic!("{e}"),
+            }
+        };
+        assert_eq!(end, due);
+        assert!(wire.device.heard().len() > 48);
+    }
+}
+
+fn midway() -> (Options, Driver) {
+    let regions = [Region::new("A.BIN", 7, 9000)];
+    let mut wire = Wire::new(Device::dump(Memory::new(2, 1 << 40, &regions)), Division::AtMost(1000), 1);
+    let options = Options::new(Backend::Usb, Mode::MemoryDebug).names(["a"]);
+    let mut run = options.start().unwrap();
+    let mut sink = Gathering(Record::default(), 2500);
+    for _ in 0..12 {
+        run.step(&mut wire, &mut sink, |_| ()).unwrap();
+    }
+    (options, run)
+}
+
+/// Bytes that are not all of a saved run are not taken for one, and a run goes on only with what it was started with.
+#[test]
+fn damaged_and_foreign_bytes() {
+    let (options, run) = midway();
+    let saved = run.save();
+    assert_eq!(options.restore(&saved).unwrap().save(), saved);
+    for i in 0..saved.len() {
+        let mut other = saved.clone();
+        other[i] ^= 1 << (i % 8);
+        assert_eq!(options.restore(&other).unwrap_err(), RestoreError::Damaged, "byte {i}");
+        assert_eq!(options.restore(&saved[..i]).unwrap_err(), RestoreError::Damaged, "{i} bytes");
+    }
+    assert_eq!(options.restore(&[saved.clone(), vec![0]].concat()).unwrap_err(), RestoreError::Damaged);
+    let other = Options::new(Backend::Serial, Mode::MemoryDebug).names(["a"]);
+    assert_eq!(other.restore(&saved).unwrap_err(), RestoreError::OtherOpening);
+    assert_eq!(options.clone().names(["b"]).restore(&saved).unwrap_err(), RestoreError::OtherBundles);
+    assert_eq!(options.clone().images(&[None]).restore(&saved).unwrap_err(), RestoreError::OtherBundles);
+    let too_many = vec![None; 65];
+    assert!(matches!(options.images(&too_many).restore(&saved), Err(RestoreError::Refused(why)) if why.number() == 1));
+}
+
+/// A sink that cannot go on with a region of another process says so each time; nothing is lost by it.
+#[test]
+fn a_sink_without_reopen() {
+    let (options, run) = midway();
+    let mut run = options.restore(&run.save()).unwrap();
+    let mut nothing = Wire::new(Device::new(Memory::empty(), vec![]), Division::Whole, 1);
+    for _ in 0..3 {
+        let end = run.run(&mut nothing, &mut Count::default(), |_| ());
+        assert!(matches!(end, Err(Error::Sink(e)) if e.kind() == ErrorKind::Unsupported));
+        assert!(matches!(run.close(&mut Count::default()), Err(Error::Sink(_))));
+    }
+}
+
+/// Loses regions when they are closed or reopened, as often as it is told.
+struct Loses(Record, u32, u32);
+
+impl Sink for Loses {
+    fn open(&mut self, place: usize, entry: &Entry) -> io::Result<()> {
+        // a region that was lost begins anew
+        if self.0 .0.last().is_some_and(|r| !r.closed) {
+            assert_eq!(self.0 .0.pop().unwrap().place, place);
+        }
+        self.0.open(place, entry)
+    }
+    fn bytes(&mut self, bytes: &[u8]) -> io::Result<usize> {
+        self.0.bytes(bytes)
+    }
+    fn close(&mut self, place: usize) -> Result<(), Unkept> {
+        if self.1 > 0 {
+            self.1 -= 1;
+            return Err(Unkept::Lost(ErrorKind::Other.into()));
+        }
+        self.0.close(place)
+    }
+    fn reopen(&mut self, _: usize, _: &Entry, _: u64) -> Result<(), Unkept> {
+        self.2 -= 1;
+        Err(Unkept::Lost(ErrorKind::Other.into()))
+    }
+    fn gathers(&self) -> usize {
+        5000
+    }
+}
+
+/// A region whose sync failed is told, never passed over, and fetched again by the next call; its reads are counted.
+#[test]
+fn lost_at_the_close() {
+    for seed in 0..300 {
+        let w = world(seed);
+        let mut wire = Wire::new(Device::dump(w.memory.clone()), Division::Random, seed);
+        let mut sink = Loses(Record::default(), 3, 0);
+        let mut run = w.options().start().unwrap();
+        let mut told = 0;
+        let end = loop {
+            match run.run(&mut wire, &mut sink, |_| ()) {
+                Err(Error::Sink(_)) => told += 1,
+                end => break end.unwrap(),
+            }
+            if seed % 2 == 0 {
+                run = w.options().restore(&run.save()).unwrap();
+            }
+        };
+        let kept = w.kept();
+        let again = kept.first().map_or(0, |r| 3 * (r.bytes.len() as u64).div_ceil(4096));
+        assert_eq!((end, told), (Outcome::Dumped { reads: w.memory_reads() + again }, if kept.is_empty() { 0 } else { 3 }));
+        assert_eq!(sink.0 .0, kept, "seed {seed}");
+        assert_eq!((wire.device.wrong(), wire.device.reads()), (None, w.memory_reads() + again));
+    }
+}
+
+/// A region that another process began and that is not there any more is fetched again behind its end: the rest of a chunk is still the device's.
+#[test]
+fn lost_at_the_reopening() {
+    for stop in 6..60 {
+        let regions = [Region::new("A.BIN", 7, 9000), Region::new("B.BIN", 1 << 20, 100)];
+        let w = crate::world::World { memory: Memory::new(2, 1 << 40, &regions), regions: regions.to_vec(), names: vec![], backend: Backend::Usb };
+        let mut wire = Wire::new(Device::dump(w.memory.clone()), Division::AtMost(1000), 1);
+        let mut sink = Loses(Record::default(), 0, 1);
+        let mut run = w.options().start().unwrap();
+        let ended = (0..stop).any(|_| run.step(&mut wire, &mut sink, |_| ()).unwrap().is_some());
+        if ended {
+            return;
+        }
+        let mut run = w.options().restore(&run.save()).unwrap();
+        let end = match run.run(&mut wire, &mut sink, |_| ()) {
+            Err(Error::Sink(_)) => run.run(&mut wire, &mut sink, |_| ()),
+            end => end,
+        };
+        assert!(matches!(end, Ok(Outcome::Dumped { .. })), "{end:?}");
+        assert_eq!(sink.0 .0, w.kept(), "behind {stop} steps");
+        assert_eq!((wire.device.wrong(), wire.device.queued()), (None, 0));
+    }
+}

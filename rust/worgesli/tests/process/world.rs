@@ -1,0 +1,116 @@
+//! A device behind a socket, the processes that fetch from it, and what they must leave.
+use device::{Device, Memory, Region};
+use std::fs;
+use std::os::fd::OwnedFd;
+use std::os::unix::net::UnixStream;
+use std::path::{Path, PathBuf};
+use std::process::{Command, Stdio};
+use std::sync::atomic::{AtomicU32, Ordering};
+use std::thread::JoinHandle;
+
+/// Names a child's folder; its presence makes the test `child` one.
+pub const CHILD: &str = "WORGESLI_TEST_CHILD";
+/// The steps that a child makes before it is killed.
+pub const STEPS: &str = "WORGESLI_TEST_STEPS";
+
+/// A folder of its own, gone afterwards.
+pub struct Temporary(pub PathBuf);
+
+impl Temporary {
+    pub fn new() -> Temporary {
+        static NEXT: AtomicU32 = AtomicU32::new(0);
+        let n = NEXT.fetch_add(1, Ordering::Relaxed);
+        let path = std::env::temp_dir().join(format!("worgesli-process-{}-{n}", std::process::id()));
+        fs::create_dir(&path).unwrap();
+        Temporary(path)
+    }
+}
+
+impl Drop for Temporary {
+    fn drop(&mut self) {
+        let _ = fs::remove_dir_all(&self.0);
+    }
+}
+
+pub fn regions() -> Vec<Region> {
+    vec![
+        Region::new("TAKE.BIN", 7, 9000),
+        Region::new("EMPTY.BIN", 9, 0),
+        Region::new("a/b", 1 << 20, 1024),
+        Region::new("TAKE.BIN", 1 << 30, 5000),
+    ]
+}
+
+/// A device that outlives the processes that fetch from it.
+pub struct Far {
+    near: OwnedFd,
+    thread: JoinHandle<(Device, u64)>,
+    memory: Memory,
+}
+
+impl Far {
+    pub fn new(seed: u64) -> Far {
+        let memory = Memory::new(seed, 1 << 40, &regions());
+        let (near, far) = UnixStream::pair().unwrap();
+        let device = Device::dump(memory.clone());
+        let thread = std::thread::spawn(move || device::serve(device, far, seed).unwrap());
+        Far { near: near.into(), thread, memory }
+    }
+
+    /// Runs a process that goes on with the fetch into `folder`; gives its exit code, None where it was killed.
+    pub fn process(&self, folder: &Path, settings: &[(&str, String)]) -> Option<i32> {
+        let mut child = Command::new(std::env::current_exe().unwrap());
+        child.args(["--exact", "child::child", "--nocapture", "--test-threads=1"]);
+        child.env(CHILD, folder).envs(settings.iter().map(|(k, v)| (k, v)));
+        child.stdin(Stdio::from(self.near.try_clone().unwrap())).stdout(Stdio::null()).stderr(Stdio::piped());
+        let done = child.output().unwrap();
+        let said = String::from_utf8_lossy(&done.stderr);
+        assert!(!said.contains("panicked"), "{said}");
+        done.status.code()
+    }
+
+    /// The device's end: it did nothing that it should not have been asked for.
+    pub fn end(self) {
+        drop(self.near);
+        let (device, _) = self.thread.join().unwrap();
+        assert_eq!((device.wrong(), device.queued()), (None, 0));
+    }
+
+    /// Each region is whole under its name, and its line in the manifest says so.
+    pub fn assert_whole(&self, folder: &Path) {
+        let lines = whole_lines(folder);
+        for (place, r) in regions().iter().enumerate() {
+            let (_, file) = lines.iter().find(|(p, _)| *p == place).unwrap_or_else(|| panic!("no whole region {place}"));
+            assert!(fs::read(file).unwrap() == self.memory.bytes(r.base, r.len as usize), "region {place}");
+        }
+    }
+
+    /// What the manifest calls whole is whole, and what has no `.part` in its name is called so.
+    pub fn assert_honest(&self, folder: &Path) {
+        for (place, file) in whole_lines(folder) {
+            let r = &regions()[place];
+            assert!(fs::read(file).unwrap() == self.memory.bytes(r.base, r.len as usize), "region {place}");
+        }
+    }
+}
+
+/// The places and files of the regions that the manifest calls whole.
+fn whole_lines(folder: &Path) -> Vec<(usize, PathBuf)> {
+    let dump = folder.join("dump");
+    let Some(manifest) = child_manifest(&dump) else { return Vec::new() };
+    let Ok(text) = fs::read_to_string(manifest) else { return Vec::new() };
+    let mut whole = Vec::new();
+    for line in text.lines().filter(|l| !l.starts_with('#')) {
+        let cells: Vec<&str> = line.split('\t').collect();
+        if let (Ok(place), Some(&"whole")) = (cells[0].parse(), cells.get(6)) {
+            whole.push((place, dump.join(cells[2])));
+        }
+    }
+    whole
+}
+
+/// The manifest of a folder into which one fetch went.
+pub fn child_manifest(dump: &Path) -> Option<PathBuf> {
+    let mut found = fs::read_dir(dump).ok()?.map(|e| e.unwrap().path());
+    found.find(|p| p.extension().is_some_and(|e| e == "tsv"))
+}
