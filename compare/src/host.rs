@@ -1,7 +1,8 @@
 //! The host under comparison: the archive's session, driven by a thin loop over a device.
 use crate::events::{hex, End, Event, Ran, What};
-use crate::random::Random;
-use crate::talk::{Device, Talk};
+use crate::random::Draws;
+use crate::talk::Talk;
+use device::{Rng, Tape};
 use worgesli::raw;
 
 pub const TABLE: usize = 65_536;
@@ -17,13 +18,13 @@ pub enum Cut {
     /// No more than the session wants.
     Wanted,
     /// At random, now and then an empty one.
-    Random(Random),
+    Random(Rng),
     /// At the multiples of a length, as the program `runs` does.
     Grid(usize),
 }
 
 impl Cut {
-    fn len(&mut self, d: &Device, wanted: usize) -> usize {
+    fn len(&mut self, d: &Tape, wanted: usize) -> usize {
         let left = d.left().len();
         match self {
             Cut::Whole => left,
@@ -59,7 +60,7 @@ struct Lent<'a> {
 
 impl Lent<'_> {
     /// A step, or the channel's end where bytes are wanted and none are left.
-    fn step(&mut self, s: raw::Session, device: &Device, wanted: usize, n: usize) -> raw::Stepped {
+    fn step(&mut self, s: raw::Session, device: &Tape, wanted: usize, n: usize) -> raw::Stepped {
         if wanted > 0 && device.left().is_empty() {
             return raw::worgesli_closed(s);
         }
@@ -71,7 +72,7 @@ impl Lent<'_> {
 }
 
 pub fn run(t: &Talk, set: &[u8], names: &[u8], mut cut: Cut, lined: bool) -> Host {
-    let mut device = Device::new(t);
+    let mut device = t.device();
     let mut s = raw::worgesli_open(t.mode, t.command.unwrap_or(raw::NO_COMMAND), t.usb as u32);
     let ran = Ran { events: Vec::new(), end: End::Other("endless".into()), taken: 0 };
     let mut h = Host { ran, opens: Vec::new(), lines: Vec::new() };
@@ -107,7 +108,7 @@ pub fn run(t: &Talk, set: &[u8], names: &[u8], mut cut: Cut, lined: bool) -> Hos
 
 impl Host {
     /// Does what an answer says; gives the end where it is one.
-    fn answered(&mut self, r: &raw::Stepped, lent: &Lent, device: &mut Device) -> Option<End> {
+    fn answered(&mut self, r: &raw::Stepped, lent: &Lent, device: &mut Tape) -> Option<End> {
         let (first, second) = (r.first as usize, r.second as usize);
         let what = match r.answer {
             0 => return None,
@@ -124,7 +125,7 @@ impl Host {
             }
             4 => {
                 let from = device.at - r.taken;
-                let bytes = part(&device.queue, from, first);
+                let bytes = part(&device.said, from, first);
                 if let Some(Event { at, what: What::Bytes(b) }) = self.ran.events.last_mut() {
                     b.extend_from_slice(bytes);
                     *at = device.at;

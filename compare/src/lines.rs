@@ -1,7 +1,8 @@
 //! The original's run in the lines of the program `runs`: its events, cut at the borders of deliveries of one size.
 use crate::events::{hex, End, Event, What};
 use crate::original::Original;
-use crate::talk::{long, mem_read};
+use crate::packets::mem_read;
+use crate::talk::long;
 
 struct Lines {
     size: usize,

@@ -14,11 +14,12 @@ mod sample;
 mod shorts;
 mod talk;
 
+use device::Rng;
 use generate::Seeded;
 use host::Cut;
 use judge::Verdict;
 use original::{Original, Reads};
-use random::Random;
+use random::Draws;
 use std::collections::BTreeMap;
 use std::path::{Path, PathBuf};
 use std::process::ExitCode;
@@ -86,7 +87,7 @@ impl Comparison {
 
     /// The same again: deliveries cut at random, and as the session wants them; then of one size, each step's line.
     fn cut(&mut self, l: &Lent, o: &Original) {
-        let mut r = Random::new(self.seed ^ self.kinds[l.talk.kind].run);
+        let mut r = Rng::new(self.seed ^ self.kinds[l.talk.kind].run);
         for (cut, how) in [(Cut::Random(r.clone()), "random deliveries"), (Cut::Wanted, "wanted deliveries")] {
             let h = host::run(l.talk, l.set, l.names, cut, false);
             if let Some(text) = judge::differs(&o.ran, &h.ran) {
@@ -99,7 +100,7 @@ impl Comparison {
             [61, 63, 64, 65, 511, 512, 1000, 4095, 4096, 5000]
         };
         let size = r.pick(&sizes);
-        let queued = Talk { opening: o.fed.clone(), memory: None, ..l.talk.clone() };
+        let queued = Talk { opening: o.fed.clone(), live: None, ..l.talk.clone() };
         let h = host::run(&queued, l.set, l.names, Cut::Grid(size), true);
         let wanted = lines::lines(o, size, Some(&h.opens)).unwrap_or_default();
         self.lines += wanted.len() as u64;
@@ -125,8 +126,8 @@ impl Comparison {
             events::short(l.names)
         );
         println!("    device {}", events::short(&t.opening));
-        if let Some(m) = &t.memory {
-            println!("    table {}; seed {}; answers {}", events::short(&m.table), m.seed, m.answers);
+        if let Some(l) = &t.live {
+            println!("    table {}; seed {}; answers {}", events::short(l.memory.table()), l.seed, l.answers);
         }
     }
 
@@ -180,7 +181,7 @@ impl Comparison {
 
 fn operations(seed: u64) -> bool {
     println!("operations");
-    let all = leaves::all(&mut Random::new(seed));
+    let all = leaves::all(&mut Rng::new(seed));
     for l in &all {
         println!("  {:>9} cases, {} differ: {}", l.cases, l.differ.len(), l.what);
         l.differ.iter().take(3).for_each(|d| println!("DIFFERENT: {d}"));

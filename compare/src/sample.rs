@@ -2,8 +2,8 @@
 use crate::events::{name_of, End, What};
 use crate::lines::lines;
 use crate::original::Original;
-use crate::random::mix;
 use crate::talk::Talk;
+use device::mix;
 use std::collections::BTreeMap;
 
 /// Of one kind and one end.

@@ -1,5 +1,6 @@
 //! A conversation: how the host is opened, what it is lent, and the device.
-use crate::random::{mix, Random};
+use crate::random::Draws;
+use device::{Memory, Rng, Tape};
 
 #[derive(Clone)]
 pub struct Talk {
@@ -14,62 +15,22 @@ pub struct Talk {
     /// The bytes that the device queues first.
     pub opening: Vec<u8>,
     /// What it answers memory reads from; without one, `opening` is all it ever says.
-    pub memory: Option<Memory>,
+    pub live: Option<Live>,
 }
 
+/// A device that answers memory reads.
 #[derive(Clone)]
-pub struct Memory {
+pub struct Live {
+    pub memory: Memory,
     pub seed: u64,
-    pub table_at: u64,
-    pub table: Vec<u8>,
     /// Memory reads that are answered before the device falls silent.
     pub answers: usize,
 }
 
-impl Memory {
-    pub fn byte(&self, address: u64) -> u8 {
-        let at = address.wrapping_sub(self.table_at);
-        if at < self.table.len() as u64 {
-            return self.table[at as usize];
-        }
-        mix(address ^ self.seed) as u8
+impl Live {
+    pub fn new(seed: u64, table_at: u64, table: Vec<u8>, answers: usize) -> Self {
+        Live { memory: Memory::mixed(seed, table_at, table), seed, answers }
     }
-}
-
-pub struct Device {
-    pub queue: Vec<u8>,
-    /// Bytes of the queue that were taken.
-    pub at: usize,
-    memory: Option<Memory>,
-}
-
-impl Device {
-    pub fn new(t: &Talk) -> Self {
-        Device { queue: t.opening.clone(), at: 0, memory: t.memory.clone() }
-    }
-
-    pub fn left(&self) -> &[u8] {
-        &self.queue[self.at..]
-    }
-
-    /// A memory read is answered with the memory's bytes; anything else is not.
-    pub fn hear(&mut self, sent: &[u8]) {
-        let Some((address, len)) = mem_read(sent) else { return };
-        let Some(m) = &mut self.memory else { return };
-        if m.answers == 0 || len > 1 << 20 {
-            return;
-        }
-        m.answers -= 1;
-        self.queue.extend((0..len).map(|i| m.byte(address.wrapping_add(i))));
-    }
-}
-
-/// The address and length of a MemRead64.
-pub fn mem_read(packet: &[u8]) -> Option<(u64, u64)> {
-    if packet.len() == 24 && command_of(packet) == 0x11 {
-        return Some((long(packet, 8), long(packet, 16)));
-    }
-    None
 }
 
 pub fn word(b: &[u8], at: usize) -> u32 {
@@ -92,7 +53,7 @@ pub struct Bundle {
 
 /// Slots as a bundle. A layout other than 0 changes their order in the data, leaves gaps and lets slots share bytes.
 pub fn bundle(slots: &[Option<&[u8]>], layout: u64) -> Bundle {
-    let mut r = Random::new(layout);
+    let mut r = Rng::new(layout);
     let mut order: Vec<usize> = (0..slots.len()).collect();
     if layout != 0 {
         for i in (1..order.len()).rev() {
@@ -133,6 +94,13 @@ fn find(data: &[u8], s: &[u8]) -> Option<usize> {
 }
 
 impl Talk {
+    pub fn device(&self) -> Tape {
+        match &self.live {
+            Some(l) => Tape::new(&self.opening, l.memory.clone(), l.answers),
+            None => Tape::new(&self.opening, Memory::mixed(0, 0, Vec::new()), 0),
+        }
+    }
+
     pub fn image_set(&self) -> Bundle {
         bundle(&self.images.iter().map(|i| i.as_deref()).collect::<Vec<_>>(), self.layout)
     }

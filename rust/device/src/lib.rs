@@ -6,14 +6,16 @@ mod packets;
 mod pty;
 mod rng;
 mod socket;
+mod tape;
 mod wire;
 
 pub use bulk::Bulk;
-pub use memory::{Memory, Region};
+pub use memory::{padded, Memory, Region};
 pub use packets::*;
 pub use pty::{serve_pty, Pty};
-pub use rng::Rng;
+pub use rng::{mix, Rng};
 pub use socket::{serve, Socket};
+pub use tape::Tape;
 pub use wire::{Division, Faults, Wire};
 
 use std::collections::VecDeque;
@@ -140,12 +142,10 @@ impl Device {
 
     fn requested(&mut self) {
         let r = &self.request;
-        if r[..8] != [0x11, 0, 0, 0, 24, 0, 0, 0] {
+        let Some((at, len)) = mem_read(r) else {
             self.wrong.get_or_insert_with(|| format!("no MemRead64: {r:?}"));
             return;
-        }
-        let at = u64::from_le_bytes(r[8..16].try_into().unwrap());
-        let len = u64::from_le_bytes(r[16..].try_into().unwrap());
+        };
         if self.queued > 0 {
             self.wrong.get_or_insert_with(|| format!("asked for {len} bytes at {at:#x} with {} still queued", self.queued));
         }

@@ -1,5 +1,5 @@
 //! A device's memory: a function from addresses to bytes, with a table of regions in it.
-use crate::Rng;
+use crate::{mix, Rng};
 
 /// What an entry of the memory table says.
 #[derive(Clone, Copy, Debug, PartialEq, Eq)]
@@ -12,7 +12,7 @@ pub struct Region {
 }
 
 /// Text in 20 bytes, zeros behind it; cut where it is longer.
-fn field(text: &[u8]) -> [u8; 20] {
+pub fn padded(text: &[u8]) -> [u8; 20] {
     let mut f = [0; 20];
     let n = text.len().min(20);
     f[..n].copy_from_slice(&text[..n]);
@@ -21,7 +21,7 @@ fn field(text: &[u8]) -> [u8; 20] {
 
 impl Region {
     pub fn new(filename: impl AsRef<[u8]>, base: u64, len: u64) -> Region {
-        Region { save_pref: 1, base, len, description: field(b"region"), filename: field(filename.as_ref()) }
+        Region { save_pref: 1, base, len, description: padded(b"region"), filename: padded(filename.as_ref()) }
     }
 
     /// Not dumped unless it is named.
@@ -43,29 +43,42 @@ impl Region {
 // A prime, so that bytes taken from a wrong place show: chunks and blocks are of other lengths.
 const PERIOD: usize = 65_521;
 
-/// Bytes at random that repeat after 65,521 addresses, and the table at its address.
+#[derive(Clone, Debug)]
+enum Fill {
+    /// twice the period, so that a stretch of it lies in one piece
+    Pattern(Vec<u8>),
+    /// of each address its own byte, by this seed
+    Mixed(u64),
+}
+
+/// Bytes at random, and the table at its address.
 #[derive(Clone, Debug)]
 pub struct Memory {
-    pattern: Vec<u8>,
+    fill: Fill,
     table_at: u64,
     table: Vec<u8>,
 }
 
 impl Memory {
+    /// Bytes that repeat after 65,521 addresses.
     pub fn new(seed: u64, table_at: u64, regions: &[Region]) -> Memory {
         Memory::with_table(seed, table_at, regions.iter().flat_map(Region::bytes).collect())
     }
 
     pub fn with_table(seed: u64, table_at: u64, table: Vec<u8>) -> Memory {
-        // twice the period, so that a stretch of it lies in one piece
         let mut pattern = vec![0; PERIOD];
         Rng::new(seed).fill(&mut pattern);
         pattern.extend_from_within(..);
-        Memory { pattern, table_at, table }
+        Memory { fill: Fill::Pattern(pattern), table_at, table }
+    }
+
+    /// Bytes that do not repeat. It costs little to make and much to read.
+    pub fn mixed(seed: u64, table_at: u64, table: Vec<u8>) -> Memory {
+        Memory { fill: Fill::Mixed(seed), table_at, table }
     }
 
     pub fn empty() -> Memory {
-        Memory { pattern: vec![0; 2 * PERIOD], table_at: 0, table: Vec::new() }
+        Memory { fill: Fill::Pattern(vec![0; 2 * PERIOD]), table_at: 0, table: Vec::new() }
     }
 
     pub fn table_at(&self) -> u64 {
@@ -76,16 +89,15 @@ impl Memory {
         self.table.len() as u64
     }
 
+    pub fn table(&self) -> &[u8] {
+        &self.table
+    }
+
     /// The bytes at an address. Addresses wrap.
     pub fn read(&self, at: u64, to: &mut [u8]) {
-        let mut from = 0;
-        while from < to.len() {
-            let here = at.wrapping_add(from as u64);
-            // no stretch passes the last address
-            let rest = (to.len() - from).min(PERIOD).min((u64::MAX - here).saturating_add(1).min(PERIOD as u64) as usize);
-            let place = (here % PERIOD as u64) as usize;
-            to[from..from + rest].copy_from_slice(&self.pattern[place..place + rest]);
-            from += rest;
+        match &self.fill {
+            Fill::Pattern(pattern) => repeat(pattern, at, to),
+            Fill::Mixed(seed) => (0..).zip(to.iter_mut()).for_each(|(i, b)| *b = mix(at.wrapping_add(i) ^ seed) as u8),
         }
         self.overlay(at, to);
     }
@@ -110,5 +122,17 @@ impl Memory {
         let mut bytes = vec![0; len];
         self.read(at, &mut bytes);
         bytes
+    }
+}
+
+fn repeat(pattern: &[u8], at: u64, to: &mut [u8]) {
+    let mut from = 0;
+    while from < to.len() {
+        let here = at.wrapping_add(from as u64);
+        // no stretch passes the last address
+        let rest = (to.len() - from).min(PERIOD).min((u64::MAX - here).saturating_add(1).min(PERIOD as u64) as usize);
+        let place = (here % PERIOD as u64) as usize;
+        to[from..from + rest].copy_from_slice(&pattern[place..place + rest]);
+        from += rest;
     }
 }

@@ -1,4 +1,4 @@
-//! The packets that a device says.
+//! The packets that a device says, and the one that it hears in a dump.
 
 /// A command, the length of the whole, and words of 4 bytes.
 pub fn packet(command: u32, words: &[u32]) -> Vec<u8> {
@@ -10,6 +10,11 @@ pub fn packet(command: u32, words: &[u32]) -> Vec<u8> {
 pub fn packet64(command: u32, words: &[u64]) -> Vec<u8> {
     let halves: Vec<u32> = words.iter().flat_map(|w| [*w as u32, (w >> 32) as u32]).collect();
     packet(command, &halves)
+}
+
+/// A packet whose length field is given, whatever its body is.
+pub fn framed(command: u32, len: u32, body: &[u8]) -> Vec<u8> {
+    [&command.to_le_bytes(), &len.to_le_bytes(), body].concat()
 }
 
 pub fn hello(mode: u32) -> Vec<u8> {
@@ -46,4 +51,10 @@ pub fn execute_resp(command: u32, len: u32) -> Vec<u8> {
 
 pub fn mem_debug64(at: u64, len: u64) -> Vec<u8> {
     packet64(0x10, &[at, len])
+}
+
+/// The address and length of a MemRead64.
+pub fn mem_read(packet: &[u8]) -> Option<(u64, u64)> {
+    let long = |at: usize| u64::from_le_bytes(packet[at..at + 8].try_into().unwrap());
+    (packet.len() == 24 && packet[..8] == [0x11, 0, 0, 0, 24, 0, 0, 0]).then(|| (long(8), long(16)))
 }

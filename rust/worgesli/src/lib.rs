@@ -33,3 +33,8 @@ pub use serial::Serial;
 pub use session::{Session, OUT, TABLE};
 pub use sink::{Count, Folder, Sink, Unkept};
 pub use table::{entry_at, next_selected, utf8, Entry, ENTRY};
+
+/// The guide's code is compiled with the tests of the documentation.
+#[cfg(doctest)]
+#[doc = include_str!("../../../docs/MIGRATION.md")]
+struct Migration;
