@@ -6,8 +6,9 @@ use device::{Device, Division, Memory, Region, Wire};
 use std::fs::{File, OpenOptions};
 use std::hint::black_box;
 use std::io::{self, Read, Write};
+use std::path::PathBuf;
 use std::time::{Duration, Instant};
-use worgesli::{sahara_run, Backend, Entry, Mode, Options, Outcome, Sink, Unkept};
+use worgesli::{sahara_run, Backend, Entry, Folder, Mode, Options, Outcome, Sink, Unkept};
 
 /// What is fetched.
 #[derive(Clone, Debug)]
@@ -21,11 +22,12 @@ pub struct Setting {
     pub names: usize,
     /// slots of the image set
     pub slots: usize,
+    pub division: Division,
 }
 
 impl Setting {
     pub fn new(backend: Backend, len: u64) -> Setting {
-        Setting { backend, regions: vec![len], others: 0, names: 0, slots: 0 }
+        Setting { backend, regions: vec![len], others: 0, names: 0, slots: 0, division: Division::Whole }
     }
 
     pub fn chunks(&self) -> u64 {
@@ -40,7 +42,7 @@ impl Setting {
         (0..self.slots).map(|i| Some(vec![i as u8; 16])).collect()
     }
 
-    /// A channel to a fresh device, which gives each read all that it asks for.
+    /// A channel to a fresh device.
     pub fn wire(&self) -> Wire {
         let mut table = vec![Region::new("OTHER.BIN", 0, 4096).unpreferred(); self.others];
         let mut base = 0;
@@ -48,7 +50,7 @@ impl Setting {
             table.push(Region::new("DDR.BIN", base, *len));
             base += len;
         }
-        Wire::new(Device::dump(Memory::new(1, 1 << 60, &table)), Division::Whole, 1)
+        Wire::new(Device::dump(Memory::new(1, 1 << 60, &table)), self.division, 1)
     }
 }
 
@@ -103,6 +105,28 @@ impl Host for Worgesli {
         let end = sahara_run(channel, &options, &mut sink, |_| ());
         assert_eq!(end.unwrap(), Outcome::Dumped { reads: 1 + setting.chunks() });
         sink.1
+    }
+}
+
+/// This host, into files of a folder below this one. Each fetch has its own, which is removed behind it.
+pub struct Files {
+    pub folder: PathBuf,
+    pub digests: bool,
+}
+
+impl Host for Files {
+    fn name(&self) -> &str {
+        "worgesli, into files"
+    }
+
+    fn fetch(&mut self, setting: &Setting, channel: &mut Wire) -> u64 {
+        let folder = self.folder.join(format!("worgesli-bench-{}", std::process::id()));
+        let mut sink = Folder::new(&folder).expect("a new folder").digests(self.digests);
+        let options = Options::new(setting.backend, Mode::MemoryDebug);
+        sahara_run(channel, &options, &mut sink, |_| ()).expect("a whole fetch");
+        let kept = sink.regions().iter().map(|r| r.bytes).sum();
+        std::fs::remove_dir_all(&folder).expect("it is ours");
+        kept
     }
 }
 

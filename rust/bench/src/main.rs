@@ -3,7 +3,8 @@
 //! `bench once bare|worgesli serial|usb MIB` makes one fetch and prints nothing, for a count of its instructions.
 mod steps;
 
-use bench::{fetches, table, Bare, Host, Keep, Setting, Worgesli};
+use bench::{fetches, table, Bare, Files, Host, Keep, Setting, Worgesli};
+use device::Division;
 use worgesli::Backend;
 
 const MIB: u64 = 1 << 20;
@@ -28,6 +29,20 @@ fn once(args: &[String]) {
         _ => Worgesli(Keep::Count).fetch(&setting, &mut wire),
     };
     assert_eq!(kept, setting.regions[0]);
+}
+
+/// Into files in memory, deliveries whole and short.
+fn files() {
+    println!("USB, 64 MiB into a file in memory: ns for each 4,096 bytes (least, median), device included");
+    for digests in [false, true] {
+        for (what, division) in [("whole chunks", Division::Whole), ("deliveries of 512 bytes", Division::AtMost(512))] {
+            let setting = Setting { division, ..Setting::new(Backend::Usb, 64 * MIB) };
+            let mut host = Files { folder: "/dev/shm".into(), digests };
+            let (least, median) = fetches(&mut [&mut host as &mut dyn Host], &setting, 7)[0].per_chunk();
+            let sha = if digests { "with SHA-256" } else { "without" };
+            println!("    {what:<28} {sha:<16} {least:8.1} {median:8.1}");
+        }
+    }
 }
 
 fn main() -> std::io::Result<()> {
@@ -61,6 +76,7 @@ fn main() -> std::io::Result<()> {
         let setting = Setting { names, slots, ..Setting::new(Backend::Usb, 16 * MIB) };
         line(&format!("16 MiB, {names} names, {slots} slots"), &setting, 15);
     }
+    files();
     steps::print(1, 0);
     steps::print(1024, 64);
     Ok(())
