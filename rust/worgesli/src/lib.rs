@@ -6,18 +6,26 @@
 #![deny(unsafe_code)]
 
 mod bundle;
+mod disk;
 mod driver;
+mod escape;
+mod folder;
+mod manifest;
 mod numbers;
 mod packet;
 pub mod raw;
 mod session;
+mod sha256;
 mod sink;
 mod table;
 
 pub use bundle::{ImageSet, NameList, SLOTS};
 pub use driver::{sahara_run, Driver, Error, Outcome, Progress, REPLY};
+pub use escape::{escape, unescape};
+pub use folder::Folder;
+pub use manifest::{read_manifest, Kept, State};
 pub use numbers::{Answer, Backend, Command, Mode, Phase, Refusal};
 pub use packet::{parse_packet, reset, Body, Packet, Unk};
 pub use session::{Session, OUT, TABLE};
-pub use sink::{Count, Folder, Sink, Unkept};
+pub use sink::{Count, Sink, Unkept};
 pub use table::{entry_at, next_selected, utf8, Entry, ENTRY};
