@@ -5,7 +5,7 @@ use std::error::Error;
 use std::fs;
 use std::path::{Path, PathBuf};
 use std::time::{Instant, SystemTime};
-use worgesli::{sahara_run, Backend, Folder, Mode, Options, Outcome};
+use worgesli::{read_manifest, sahara_run, Backend, Folder, Mode, Options, Outcome, State};
 
 /// The first of run-1, run-2, … that is not there yet.
 fn fresh(folder: &Path) -> std::io::Result<PathBuf> {
@@ -63,20 +63,21 @@ fn main() -> Result<(), Box<dyn Error>> {
         "{reads} reads of the socket, {short} gave fewer bytes than asked for; {empty} empty reads; {} ms",
         time.as_millis()
     );
-    println!("{reported} times bytes were handed to the files below {}", folder.display());
+    println!("{reported} times bytes were handed to the files; {} says:", sink.manifest_path().display());
 
     let mut wrong = 0;
-    for (place, name) in sink.made() {
-        let r = &regions[*place];
-        let same = fs::read(folder.join(name))? == memory.bytes(r.base, r.len as usize);
+    for kept in read_manifest(sink.manifest_path())? {
+        let r = &regions[kept.place];
+        let bytes = memory.bytes(r.base, r.len as usize);
+        let same = kept.state == State::Whole && fs::read(folder.join(&kept.file))? == bytes;
         wrong += u32::from(!same);
         let said = if same { "as in the device's memory" } else { "NOT as in the device's memory" };
-        println!("    {name:<16} {:>9} bytes from {:#018x}: {said}", r.len, r.base);
+        println!("    {:<16} {:>9} bytes from {:#018x}: {said}", kept.file, r.len, r.base);
     }
-    let preferred = regions.iter().filter(|r| r.save_pref != 0).count();
-    let all = sink.made().len() == preferred && requests == device.reads() && device.wrong().is_none();
+    let (preferred, came) = (regions.iter().filter(|r| r.save_pref != 0).count(), sink.regions().len());
+    let all = came == preferred && requests == device.reads() && device.wrong().is_none();
     if wrong > 0 || !all {
-        return Err(format!("{wrong} files differ; {} of {preferred} regions came", sink.made().len()).into());
+        return Err(format!("{wrong} files differ; {came} of {preferred} regions came").into());
     }
     println!("{preferred} regions fetched, all as in the device's memory");
     Ok(())

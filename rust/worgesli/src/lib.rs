@@ -6,8 +6,12 @@
 #![deny(unsafe_code)]
 
 mod bundle;
+mod disk;
 mod driver;
 mod error;
+mod escape;
+mod folder;
+mod manifest;
 mod numbers;
 mod options;
 mod packet;
@@ -24,6 +28,9 @@ mod tty;
 pub use bundle::{ImageSet, NameList, SLOTS};
 pub use driver::{sahara_run, Driver, Outcome, Progress, REPLY};
 pub use error::Error;
+pub use escape::{escape, unescape};
+pub use folder::Folder;
+pub use manifest::{read_manifest, Kept, State};
 pub use numbers::{Answer, Backend, Command, Mode, Phase, Refusal};
 pub use options::Options;
 pub use packet::{parse_packet, reset, Body, Packet, Unk};
@@ -31,7 +38,7 @@ pub use packets::Packets;
 pub use saved::RestoreError;
 pub use serial::Serial;
 pub use session::{Session, OUT, TABLE};
-pub use sink::{Count, Folder, Sink, Unkept};
+pub use sink::{Count, Sink, Unkept};
 pub use table::{entry_at, next_selected, utf8, Entry, ENTRY};
 
 /// The guide's code is compiled with the tests of the documentation.

@@ -1,8 +1,6 @@
 //! Where the bytes of regions go.
 use crate::Entry;
-use std::fs::{self, File, OpenOptions};
-use std::io::{self, ErrorKind, Write};
-use std::path::{Path, PathBuf};
+use std::io::{self, ErrorKind};
 
 /// Takes regions, one at a time: an open, its bytes in order, a close. What failed, or panicked, is asked anew when the run goes on.
 pub trait Sink {
@@ -76,87 +74,6 @@ impl Sink for Count {
     }
     fn close(&mut self, _: usize) -> Result<(), Unkept> {
         self.closed += 1;
-        Ok(())
-    }
-}
-
-/// Writes each region to a file of its own in a folder. No file that is there is ever opened: a second region of one filename gets its
-/// place in the table added, `DDR.BIN.3`, and a file from before is an error. A region that is closed is on the disk.
-#[derive(Debug)]
-pub struct Folder {
-    folder: PathBuf,
-    file: Option<File>,
-    /// the place in the table and the file's name, of each region so far
-    made: Vec<(usize, String)>,
-}
-
-impl Folder {
-    /// The folder is made if it is not there.
-    pub fn new(folder: impl AsRef<Path>) -> io::Result<Folder> {
-        fs::create_dir_all(&folder)?;
-        Ok(Folder { folder: folder.as_ref().into(), file: None, made: Vec::new() })
-    }
-
-    /// The regions that were opened, by place in the table and file name.
-    pub fn made(&self) -> &[(usize, String)] {
-        &self.made
-    }
-
-    fn create(&self, place: usize, name: &str) -> io::Result<(File, String)> {
-        let mut name = name.to_owned();
-        loop {
-            let path = self.folder.join(&name);
-            match OpenOptions::new().write(true).create_new(true).open(path) {
-                // ours from an earlier region; some file systems know no case
-                Err(e) if e.kind() == ErrorKind::AlreadyExists && self.is_made(&name) => {
-                    name = format!("{name}.{place}");
-                }
-                file => return file.map(|f| (f, name)),
-            }
-        }
-    }
-
-    fn is_made(&self, name: &str) -> bool {
-        self.made.iter().any(|(_, made)| made.eq_ignore_ascii_case(name))
-    }
-}
-
-/// A filename that is one plain step down from a folder.
-fn plain(entry: &Entry) -> io::Result<&str> {
-    let unfit = |why| Err(io::Error::new(ErrorKind::InvalidInput, format!("filename {:?}: {why}", lossy(entry))));
-    match entry.name() {
-        None => unfit("not UTF-8, or without a zero byte"),
-        Some("") => unfit("empty"),
-        Some("." | "..") => unfit("names a folder"),
-        Some(name) if name.contains(['/', '\\']) => unfit("has a separator"),
-        Some(name) => Ok(name),
-    }
-}
-
-fn lossy(entry: &Entry) -> String {
-    String::from_utf8_lossy(&entry.filename).into_owned()
-}
-
-impl Sink for Folder {
-    fn open(&mut self, place: usize, entry: &Entry) -> io::Result<()> {
-        let (file, name) = self.create(place, plain(entry)?)?;
-        self.file = Some(file);
-        self.made.push((place, name));
-        Ok(())
-    }
-
-    fn bytes(&mut self, bytes: &[u8]) -> io::Result<usize> {
-        match &mut self.file {
-            Some(file) => file.write(bytes),
-            None => Err(io::Error::other("no region is open")),
-        }
-    }
-
-    fn close(&mut self, _: usize) -> Result<(), Unkept> {
-        if let Some(file) = &self.file {
-            file.sync_all()?;
-        }
-        self.file = None;
         Ok(())
     }
 }

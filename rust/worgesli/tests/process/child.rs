@@ -1,5 +1,5 @@
 //! The process that fetches.
-use crate::world::{child_manifest, CHILD, STEPS};
+use crate::world::{CHILD, STEPS};
 use std::fs::{self, File};
 use std::io::{self, Write};
 use std::os::fd::AsFd;
@@ -36,28 +36,24 @@ fn fetch(folder: &Path) -> i32 {
         match turn(folder, saved.is_some(), &mut sink, &mut run, &mut channel, steps) {
             Ok(true) => return 0,
             Ok(false) => {
-                save(&run, &state).unwrap();
+                save(&run, sink.as_ref(), folder).unwrap();
                 abort();
             }
             Err(why) => eprintln!("{why}"),
         }
     }
     let _ = fs::remove_file("/worgesli-faults-end");
-    match sink.is_some() {
-        true => save(&run, &state).map_or(4, |()| 3),
-        false => 4,
-    }
+    save(&run, sink.as_ref(), folder).map_or(4, |()| 3)
 }
 
 /// So many steps with a folder that is opened or reopened first; true at the end.
 fn turn(folder: &Path, saved: bool, sink: &mut Option<Folder>, run: &mut Driver, channel: &mut File, steps: u64) -> Result<bool, Error> {
-    let dump = folder.join("dump");
     let sink = match sink {
         Some(sink) => sink,
         None => {
-            let made = match child_manifest(&dump) {
-                Some(manifest) if saved => Folder::resume(manifest),
-                _ => Folder::new(&dump),
+            let made = match saved {
+                true => fs::read_to_string(folder.join("manifest")).and_then(Folder::resume),
+                false => Folder::new(folder.join("dump")),
             };
             sink.insert(made.map_err(Error::Sink)?)
         }
@@ -70,11 +66,13 @@ fn turn(folder: &Path, saved: bool, sink: &mut Option<Folder>, run: &mut Driver,
     Ok(false)
 }
 
-/// Whole or not at all.
-fn save(run: &Driver, state: &Path) -> io::Result<()> {
-    let part = state.with_extension("part");
+/// The run, and where its manifest is: whole or not at all. Where no folder was made there is nothing to go on with.
+fn save(run: &Driver, sink: Option<&Folder>, folder: &Path) -> io::Result<()> {
+    let manifest = sink.ok_or(io::ErrorKind::NotFound)?.manifest_path();
+    fs::write(folder.join("manifest"), manifest.to_str().unwrap())?;
+    let part = folder.join("state.part");
     let mut file = File::create(&part)?;
     file.write_all(&run.save())?;
     file.sync_all()?;
-    fs::rename(part, state)
+    fs::rename(part, folder.join("state"))
 }

@@ -13,7 +13,7 @@ fn killed_behind_each_step() {
         far.assert_whole(&folder.0);
         far.end();
         if first.is_some() {
-            assert!(first == Some(0) && steps > 40, "{first:?} behind {steps} steps");
+            assert!(first == Some(0) && steps > 25, "{first:?} behind {steps} steps");
             break;
         }
     }
@@ -27,7 +27,7 @@ fn a_process_for_each_step() {
     while far.process(&folder.0, &[(STEPS, "1".to_string())]).is_none() {
         killed += 1;
     }
-    assert!(killed > 40, "{killed}");
+    assert!(killed > 25, "{killed}");
     far.assert_whole(&folder.0);
     far.end();
 }

@@ -85,32 +85,34 @@ impl Far {
         }
     }
 
-    /// What the manifest calls whole is whole, and what has no `.part` in its name is called so.
+    /// What the manifest calls whole is whole, and what has a final name is whole.
     pub fn assert_honest(&self, folder: &Path) {
+        let bytes = |place: usize| self.memory.bytes(regions()[place].base, regions()[place].len as usize);
         for (place, file) in whole_lines(folder) {
-            let r = &regions()[place];
-            assert!(fs::read(file).unwrap() == self.memory.bytes(r.base, r.len as usize), "region {place}");
+            assert!(fs::read(file).unwrap() == bytes(place), "region {place}");
+        }
+        let Ok(found) = fs::read_dir(folder.join("dump")) else { return };
+        for path in found.map(|e| e.unwrap().path()) {
+            let name = path.file_name().unwrap().to_str().unwrap();
+            let ours = name.starts_with("manifest~") || name.ends_with(".part");
+            let whole = || (0..regions().len()).any(|place| fs::read(&path).unwrap() == bytes(place));
+            assert!(ours || whole(), "{name}");
         }
     }
 }
 
-/// The places and files of the regions that the manifest calls whole.
+/// The places and files of the regions that a manifest calls whole. A folder that failed on its way may have left one beside that of the next.
 fn whole_lines(folder: &Path) -> Vec<(usize, PathBuf)> {
     let dump = folder.join("dump");
-    let Some(manifest) = child_manifest(&dump) else { return Vec::new() };
-    let Ok(text) = fs::read_to_string(manifest) else { return Vec::new() };
+    let Ok(found) = fs::read_dir(&dump) else { return Vec::new() };
     let mut whole = Vec::new();
-    for line in text.lines().filter(|l| !l.starts_with('#')) {
-        let cells: Vec<&str> = line.split('\t').collect();
-        if let (Ok(place), Some(&"whole")) = (cells[0].parse(), cells.get(6)) {
-            whole.push((place, dump.join(cells[2])));
+    for path in found.map(|e| e.unwrap().path()).filter(|p| p.extension().is_some_and(|e| e == "tsv")) {
+        for line in fs::read_to_string(path).unwrap().lines().filter(|l| !l.starts_with('#')) {
+            let cells: Vec<&str> = line.split('\t').collect();
+            if cells[6] == "whole" {
+                whole.push((cells[0].parse().unwrap(), dump.join(cells[2])));
+            }
         }
     }
     whole
-}
-
-/// The manifest of a folder into which one fetch went.
-pub fn child_manifest(dump: &Path) -> Option<PathBuf> {
-    let mut found = fs::read_dir(dump).ok()?.map(|e| e.unwrap().path());
-    found.find(|p| p.extension().is_some_and(|e| e == "tsv"))
 }

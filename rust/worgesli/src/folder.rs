@@ -1,0 +1,337 @@
+//! The sink that keeps regions as files in a folder, with a manifest beside them.
+//!
+//! A region's file has `.part` behind its name until all of it is synced. Whoever made `NAME.part` owns `NAME`: it is made as a new file,
+//! and given up again where `NAME` is there already. So a region never gets the name of a file that is there, with several of these sinks
+//! on one folder too.
+mod close;
+mod reopen;
+#[cfg(test)]
+mod tests;
+
+use crate::disk::{make_folders, write_all, Disk, System};
+use crate::escape::{escape, PART};
+use crate::manifest::{self, table_name, Kept, State};
+use crate::sha256::Sha256;
+use crate::{Entry, Sink, Unkept};
+use close::Stage;
+use std::collections::HashSet;
+use std::fmt;
+use std::fs::File;
+use std::io::{self, ErrorKind};
+use std::path::{Path, PathBuf};
+use std::sync::Arc;
+
+/// Writes each region to a file of its own in a folder, for the owner alone. No file that is there is ever opened or overwritten.
+///
+/// A file's name is the region's filename, [escaped](crate::escape); `~2`, `~3`, … is added where it is taken. It ends in `.part` until
+/// the region is whole: all bytes synced, the final name synced too. The [manifest](Folder::manifest_path) says how each region stands;
+/// it is replaced as a whole, so that it is never torn, and says `whole` last of all.
+///
+/// A sync that fails loses the region ([`Unkept::Lost`]): the system may have dropped its bytes, and a second sync would not tell. Its
+/// file stays as it is, and the region comes again into another.
+pub struct Folder {
+    disk: Arc<dyn Disk>,
+    path: PathBuf,
+    /// held from the beginning, so that an error of writing the folder back is told to us
+    held: File,
+    manifest: PathBuf,
+    limit: u64,
+    digests: bool,
+    regions: Vec<Kept>,
+    current: Option<Current>,
+    /// the manifest on the disk is not what it should be
+    unsaved: bool,
+}
+
+/// The region that is being fetched.
+struct Current {
+    /// its place among the regions
+    line: usize,
+    file: File,
+    written: u64,
+    hash: Option<Sha256>,
+    /// a write failed: where the file stands is not known
+    adrift: bool,
+    stage: Stage,
+}
+
+impl Folder {
+    /// The folder is made if it is not there, and those above it too. A new manifest is made, which shows at once whether the folder can
+    /// be written and synced. What an earlier fetch left there stays as it is.
+    pub fn new(folder: impl AsRef<Path>) -> io::Result<Folder> {
+        Folder::on(Arc::new(System), folder.as_ref())
+    }
+
+    fn on(disk: Arc<dyn Disk>, path: &Path) -> io::Result<Folder> {
+        make_folders(&*disk, path)?;
+        let mut folder = Folder::with(disk, path, PathBuf::new(), Vec::new())?;
+        let (file, name) = folder.claim_manifest()?;
+        folder.manifest = folder.path.join(name);
+        folder.write_manifest(&file)?;
+        Ok(folder)
+    }
+
+    fn with(disk: Arc<dyn Disk>, path: &Path, manifest: PathBuf, regions: Vec<Kept>) -> io::Result<Folder> {
+        let held = disk.open_folder(path)?;
+        let path = path.into();
+        Ok(Folder { disk, path, held, manifest, limit: u64::MAX, digests: true, regions, current: None, unsaved: false })
+    }
+
+    /// A bound on what a device's table can make this write: a region is refused ([`ErrorKind::QuotaExceeded`]) that would bring the sum
+    /// of the lengths above it. Of a region that was lost the bytes count that were written.
+    pub fn limit(mut self, bytes: u64) -> Folder {
+        self.set_limit(bytes);
+        self
+    }
+
+    /// As [`limit`](Folder::limit), between two runs: after a refusal a run goes on under a higher bound.
+    pub fn set_limit(&mut self, bytes: u64) {
+        self.limit = bytes;
+    }
+
+    /// Whether the manifest gets the SHA-256 of each region. It does unless this says no, for channels that are faster than the sum is.
+    pub fn digests(mut self, wanted: bool) -> Folder {
+        self.digests = wanted;
+        self
+    }
+
+    /// The folder.
+    pub fn path(&self) -> &Path {
+        &self.path
+    }
+
+    /// The manifest: a file of its own for each [`new`](Folder::new). No region can have its name.
+    pub fn manifest_path(&self) -> &Path {
+        &self.manifest
+    }
+
+    /// The regions in the order in which they were opened, those that were lost too.
+    pub fn regions(&self) -> &[Kept] {
+        &self.regions
+    }
+
+    /// Syncs what was taken so far and has the manifest say how much that is. To be called before a driver is saved: what a saved driver
+    /// counts as taken is then still there after the power went. A region that this loses takes its bytes all the same, and is found lost
+    /// when it is closed or reopened.
+    pub fn checkpoint(&mut self) -> Result<(), Unkept> {
+        let synced = match self.current.as_ref().is_some_and(|c| c.stage == Stage::Taking) {
+            true => self.sync_bytes(),
+            false => Ok(()),
+        };
+        let saved = self.save();
+        synced.and(Ok(saved?))
+    }
+
+    /// The last [`checkpoint`](Folder::checkpoint). A folder that is only dropped writes its manifest too, but cannot say that it failed.
+    pub fn finish(mut self) -> Result<(), Unkept> {
+        self.checkpoint()
+    }
+
+    fn at(&self, name: &str) -> PathBuf {
+        self.path.join(name)
+    }
+
+    /// A new file `NAME.part`, where neither it nor `NAME` was there. Names that differ in case alone count as the same.
+    fn claim(&self, stem: &str) -> io::Result<(File, String)> {
+        let ours: HashSet<String> = self.regions.iter().map(|k| k.whole_name().to_ascii_lowercase()).collect();
+        for n in 1u64.. {
+            let name = if n == 1 { stem.to_owned() } else { format!("{stem}~{n}") };
+            if ours.contains(&name.to_ascii_lowercase()) {
+                continue;
+            }
+            if let Some(file) = self.claimed(&format!("{name}{PART}"), &name)? {
+                return Ok((file, format!("{name}{PART}")));
+            }
+        }
+        Err(ErrorKind::AlreadyExists.into())
+    }
+
+    /// The manifest's name has a `~` with more than a number behind it, which no region's has.
+    fn claim_manifest(&self) -> io::Result<(File, String)> {
+        for n in 1u64.. {
+            let name = format!("manifest~{n}.tsv");
+            if let Some(file) = self.claimed(&format!("{name}.new"), &name)? {
+                return Ok((file, name));
+            }
+        }
+        Err(ErrorKind::AlreadyExists.into())
+    }
+
+    /// Makes a new file of the first name, and gives it up again where there is one of the second.
+    fn claimed(&self, first: &str, second: &str) -> io::Result<Option<File>> {
+        let file = match self.disk.create(&self.at(first)) {
+            Err(e) if e.kind() == ErrorKind::AlreadyExists => return Ok(None),
+            file => file?,
+        };
+        match self.disk.look(&self.at(second)) {
+            Ok(None) => Ok(Some(file)),
+            found => {
+                let removed = self.disk.remove(&self.at(first));
+                found.and(removed).map(|()| None)
+            }
+        }
+    }
+
+    /// Replaces the manifest: a new file, synced, gets its name, and the folder is synced. What fails on the way is made anew from the
+    /// beginning the next time.
+    fn save(&mut self) -> io::Result<()> {
+        self.unsaved = true;
+        self.snapshot();
+        let new = self.new_manifest();
+        let file = match self.disk.create(&new) {
+            // left by a process that died
+            Err(e) if e.kind() == ErrorKind::AlreadyExists => {
+                self.disk.remove(&new)?;
+                self.disk.create(&new)?
+            }
+            file => file?,
+        };
+        self.write_manifest(&file)
+    }
+
+    fn write_manifest(&mut self, file: &File) -> io::Result<()> {
+        let new = self.new_manifest();
+        let text = manifest::text(&self.regions);
+        let written = write_all(&*self.disk, file, text.as_bytes())
+            .and_then(|()| self.disk.sync(file))
+            .and_then(|()| self.disk.rename(&new, &self.manifest));
+        if written.is_err() {
+            let _ = self.disk.remove(&new);
+        }
+        written.and_then(|()| self.disk.sync(&self.held))?;
+        self.unsaved = false;
+        Ok(())
+    }
+
+    fn new_manifest(&self) -> PathBuf {
+        let mut name = self.manifest.clone().into_os_string();
+        name.push(".new");
+        name.into()
+    }
+
+    /// Brings the line of the open region up to date.
+    fn snapshot(&mut self) {
+        if let Some(c) = &self.current {
+            let kept = &mut self.regions[c.line];
+            kept.bytes = c.written;
+            kept.sha256 = c.hash.clone().map(Sha256::finish);
+        }
+    }
+
+    /// The open region is not open any more, and not whole.
+    fn let_go(&mut self, why: &str) {
+        self.snapshot();
+        if let Some(c) = self.current.take() {
+            self.lose(c.line, why);
+        }
+    }
+
+    /// A region will not be whole. The first reason stays.
+    fn lose(&mut self, line: usize, why: &str) {
+        if !matches!(self.regions[line].state, State::Lost(_)) {
+            self.regions[line].state = State::Lost(why.into());
+            self.unsaved = true;
+        }
+    }
+
+    /// Another region is begun, or this one again: those of which that is the end are lost.
+    fn abandon(&mut self, place: usize) -> io::Result<()> {
+        self.part_name()?;
+        self.let_go("given up before it was whole");
+        for line in 0..self.regions.len() {
+            if self.regions[line].place == place && self.regions[line].state == State::Part {
+                self.lose(line, "begun again");
+            }
+        }
+        Ok(())
+    }
+
+    /// Bytes that the regions so far have or will have.
+    fn bound(&self) -> u64 {
+        let of = |k: &Kept| if matches!(k.state, State::Lost(_)) { k.bytes } else { k.len };
+        self.regions.iter().map(of).fold(0, u64::saturating_add)
+    }
+}
+
+impl Sink for Folder {
+    /// Made anew after an error of the manifest, it goes on with the file that it made.
+    fn open(&mut self, place: usize, entry: &Entry) -> io::Result<()> {
+        let begun = |c: &Current| c.written == 0 && c.stage == Stage::Taking && self.regions[c.line].is_of(place, entry);
+        if self.current.as_ref().is_some_and(begun) {
+            return if self.unsaved { self.save() } else { Ok(()) };
+        }
+        self.abandon(place)?;
+        let sum = self.bound().saturating_add(entry.len);
+        if sum > self.limit {
+            let why =
+                format!("the region at place {place} would bring the sum of lengths to {sum}, above the limit of {}", self.limit);
+            return Err(io::Error::new(ErrorKind::QuotaExceeded, why));
+        }
+        let (file, name) = self.claim(&escape(table_name(entry)))?;
+        let line = self.regions.len();
+        self.regions.push(Kept::new(place, entry, name));
+        let hash = self.digests.then(Sha256::new);
+        self.current = Some(Current { line, file, written: 0, hash, adrift: false, stage: Stage::Taking });
+        self.unsaved = true;
+        self.save()
+    }
+
+    /// One write.
+    fn bytes(&mut self, bytes: &[u8]) -> io::Result<usize> {
+        let Some(c) = self.current.as_mut().filter(|c| c.stage == Stage::Taking) else {
+            return Err(io::Error::other("no region is open"));
+        };
+        let len = self.regions[c.line].len;
+        if bytes.len() as u64 > len - c.written {
+            return Err(io::Error::new(ErrorKind::InvalidInput, format!("more bytes than the {len} of the region")));
+        }
+        if c.adrift {
+            self.disk.seek(&c.file, c.written)?;
+        }
+        c.adrift = true;
+        let n = self.disk.write(&c.file, bytes)?;
+        c.adrift = false;
+        c.written += n as u64;
+        if let Some(hash) = &mut c.hash {
+            hash.update(&bytes[..n]);
+        }
+        Ok(n)
+    }
+
+    fn close(&mut self, place: usize) -> Result<(), Unkept> {
+        self.make_whole(place)
+    }
+
+    fn reopen(&mut self, place: usize, entry: &Entry, taken: u64) -> Result<(), Unkept> {
+        self.go_on(place, entry, taken)
+    }
+
+    fn gathers(&self) -> usize {
+        65_536
+    }
+}
+
+/// No bytes of regions are printed.
+impl fmt::Debug for Folder {
+    fn fmt(&self, f: &mut fmt::Formatter<'_>) -> fmt::Result {
+        let open = self.current.as_ref().map(|c| (c.line, c.written, c.stage));
+        f.debug_struct("Folder")
+            .field("path", &self.path)
+            .field("manifest", &self.manifest)
+            .field("limit", &self.limit)
+            .field("digests", &self.digests)
+            .field("regions", &self.regions)
+            .field("open", &open)
+            .finish_non_exhaustive()
+    }
+}
+
+/// The manifest is brought up to date.
+impl Drop for Folder {
+    fn drop(&mut self) {
+        let behind = |c: &Current| self.regions[c.line].bytes != c.written;
+        if self.unsaved || self.current.as_ref().is_some_and(behind) {
+            let _ = self.save();
+        }
+    }
+}

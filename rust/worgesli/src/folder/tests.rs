@@ -1,0 +1,523 @@
+//! The sink of files on a disk that fails, under a process that dies, and where the power goes.
+mod shaky;
+
+use super::*;
+use crate::{read_manifest, unescape};
+use device::Rng;
+use shaky::{Fault, Shaky, Survives};
+use std::collections::BTreeMap;
+use std::fs;
+use std::sync::atomic::{AtomicU32, Ordering};
+
+/// A folder of its own for each run, gone afterwards.
+struct Temporary(PathBuf);
+
+impl Temporary {
+    fn new() -> Temporary {
+        static NEXT: AtomicU32 = AtomicU32::new(0);
+        let n = NEXT.fetch_add(1, Ordering::Relaxed);
+        // in memory, where that can be: syncs are not made, and the runs are many
+        let memory = Path::new("/dev/shm").join(format!("worgesli-unit-{}-{n}", std::process::id()));
+        let path = match fs::create_dir(&memory) {
+            Ok(()) => memory,
+            Err(_) => std::env::temp_dir().join(memory.file_name().unwrap()),
+        };
+        fs::create_dir_all(&path).unwrap();
+        Temporary(path)
+    }
+}
+
+impl Drop for Temporary {
+    fn drop(&mut self) {
+        let _ = fs::remove_dir_all(&self.0);
+    }
+}
+
+/// A table's regions and their bytes.
+struct World(Vec<(Entry, Vec<u8>)>);
+
+fn entry(name: &[u8], base: u64, len: u64) -> Entry {
+    let mut filename = [0; 20];
+    filename[..name.len()].copy_from_slice(name);
+    Entry { save_pref: 1, base, len, description: [0; 20], filename }
+}
+
+impl World {
+    fn new() -> World {
+        let mut rng = Rng::new(3);
+        let names: [(&[u8], usize); 4] = [(b"DDR.BIN", 2500), (b"A/B.BIN", 700), (b"EMPTY", 0), (b"ddr.bin", 1000)];
+        let region = |(name, len): (&[u8], usize)| {
+            let mut bytes = vec![0; len];
+            rng.fill(&mut bytes);
+            (entry(name, 0x8000_0000, len as u64), bytes)
+        };
+        World(names.map(region).into())
+    }
+}
+
+/// What a driver saves: the region that it is at, whether it is open, and how many bytes were taken.
+#[derive(Clone, Copy, Debug, Default)]
+struct Saved {
+    place: usize,
+    open: bool,
+    taken: usize,
+}
+
+/// Plays a driver that saves itself after each call. With checkpoints, only after one.
+struct Player<'a> {
+    world: &'a World,
+    saved: Vec<Saved>,
+    checkpoints: bool,
+    /// calls that failed
+    failed: usize,
+}
+
+const MOST: usize = 60;
+
+impl<'a> Player<'a> {
+    fn new(world: &'a World, checkpoints: bool) -> Player<'a> {
+        Player { world, saved: vec![Saved::default()], checkpoints, failed: 0 }
+    }
+
+    fn now(&self) -> Saved {
+        *self.saved.last().unwrap()
+    }
+
+    /// One call. A failed one is made anew by the next.
+    fn call(&mut self, folder: &mut Folder) {
+        let Saved { place, open, taken } = self.now();
+        let (entry, bytes) = &self.world.0[place];
+        let next = if !open {
+            folder.open(place, entry).map(|()| Saved { place, open: true, taken: 0 })
+        } else if taken < bytes.len() {
+            let piece = &bytes[taken..bytes.len().min(taken + 1000)];
+            folder.bytes(piece).map(|n| Saved { place, open, taken: taken + n })
+        } else {
+            match folder.close(place) {
+                Ok(()) => {
+                    self.kept_whole(folder, place);
+                    Ok(Saved { place: place + 1, open: false, taken: 0 })
+                }
+                Err(Unkept::Lost(_)) => Ok(Saved { place, open: false, taken: 0 }),
+                Err(Unkept::Again(e)) => Err(e),
+            }
+        };
+        match next {
+            Ok(next) => self.save(folder, next),
+            Err(_) => self.failed += 1,
+        }
+    }
+
+    fn save(&mut self, folder: &mut Folder, next: Saved) {
+        self.saved.push(next);
+        if self.checkpoints && folder.checkpoint().is_err() {
+            // saved all the same in memory, and not on the disk
+            self.failed += 1;
+        }
+    }
+
+    /// Whatever was closed, the manifest on the disk says so, and it is so.
+    fn kept_whole(&self, folder: &Folder, place: usize) {
+        let regions = read_manifest(folder.manifest_path()).unwrap();
+        let kept = regions.iter().rfind(|k| k.place == place).unwrap();
+        assert_eq!(kept.state, State::Whole);
+        assert!(fs::read(folder.at(&kept.file)).unwrap() == self.world.0[place].1);
+    }
+
+    /// Calls until all is fetched, or too many calls failed.
+    fn run(&mut self, folder: &mut Folder) -> bool {
+        self.failed = 0;
+        while self.now().place < self.world.0.len() && self.failed < MOST {
+            self.call(folder);
+        }
+        self.failed < MOST
+    }
+
+    /// A driver in another process, from what was saved `back` saves ago.
+    fn resume(&mut self, folder: &mut Folder, back: usize) {
+        let saved = self.saved[self.saved.len().saturating_sub(1 + back)];
+        self.saved.push(saved);
+        let Saved { place, open: true, taken } = saved else { return };
+        for _ in 0..MOST {
+            match folder.reopen(place, &self.world.0[place].0, taken as u64) {
+                Ok(()) => return,
+                Err(Unkept::Lost(_)) => return self.saved.push(Saved { place, open: false, taken: 0 }),
+                Err(Unkept::Again(_)) => {}
+            }
+        }
+    }
+}
+
+/// What a manifest claims is so in its folder: each whole region is there, byte for byte. Gives the lines.
+fn true_claims(manifest: &Path, world: &World) -> Vec<Kept> {
+    let regions = read_manifest(manifest).unwrap();
+    for kept in &regions {
+        let (entry, bytes) = &world.0[kept.place];
+        assert!(kept.is_of(kept.place, entry) && unescape(&kept.file).as_ref() == Some(&kept.name));
+        if kept.state == State::Whole {
+            let is = fs::read(manifest.with_file_name(&kept.file)).unwrap_or_else(|e| panic!("{}: {e}", kept.file));
+            assert!(is == *bytes, "{} is not as it was in the device", kept.file);
+            let mut hash = Sha256::new();
+            hash.update(&is);
+            assert_eq!(kept.sha256, Some(hash.finish()));
+        }
+    }
+    regions
+}
+
+/// After a whole fetch each region is whole, and every name without `.part` is that of a whole region or of a manifest.
+fn all_whole(folder: &Folder, world: &World) -> Vec<Kept> {
+    all_whole_but(folder, world, |_| false)
+}
+
+fn all_whole_but(folder: &Folder, world: &World, but: impl Fn(&Path) -> bool) -> Vec<Kept> {
+    let regions = true_claims(folder.manifest_path(), world);
+    assert_eq!(regions, folder.regions());
+    let last: BTreeMap<usize, &Kept> = regions.iter().map(|k| (k.place, k)).collect();
+    assert!(last.len() == world.0.len() && last.values().all(|k| k.state == State::Whole), "{regions:?}");
+    for name in fs::read_dir(folder.path()).unwrap() {
+        let name = name.unwrap().file_name().into_string().unwrap();
+        let whole = regions.iter().any(|k| k.file == name && k.state == State::Whole);
+        let known = name.ends_with(PART) || name.starts_with("manifest~") || whole || but(&folder.at(&name));
+        assert!(known, "{name}: {regions:?}");
+    }
+    regions
+}
+
+/// The same in what the disk has for sure, as if the power went now.
+fn synced_too(disk: &Shaky, folder: &Folder, world: &World) {
+    let t = Temporary::new();
+    disk.image(&t.0, Survives::Synced, &mut Rng::new(0));
+    let manifest = t.0.join(folder.manifest_path().file_name().unwrap());
+    let regions = true_claims(&manifest, world);
+    assert_eq!(regions, folder.regions(), "the manifest is not on the disk");
+}
+
+fn opened(disk: &Arc<Shaky>, path: &Path) -> Option<Folder> {
+    (0..MOST).find_map(|_| Folder::on(disk.clone(), path).ok())
+}
+
+/// Any call of the system may fail, once or some times in a row, with or without having done its work: the fetch goes on to its end, all
+/// is whole, and only what a sync failed for was lost.
+#[test]
+fn each_call_fails() {
+    let world = World::new();
+    let (mut runs, mut lost) = (0, 0);
+    for error in [5, 28, 4, 11] {
+        for (times, effect) in [(1, false), (1, true), (2, false), (3, true), (7, false)] {
+            for from in 0.. {
+                let t = Temporary::new();
+                let disk = Shaky::new(&t.0, Some(Fault { from, times, error, effect }));
+                let mut folder = opened(&disk, &t.0).unwrap();
+                let mut player = Player::new(&world, from % 3 == 0);
+                assert!(player.run(&mut folder), "from {from}");
+                let regions = all_whole(&folder, &world);
+                synced_too(&disk, &folder, &world);
+                let failed = disk.failed();
+                if failed.is_empty() {
+                    break;
+                }
+                let gone = regions.iter().filter(|k| k.state != State::Whole).count();
+                assert!(gone == 0 || failed.contains(&"sync"), "{failed:?}: {regions:?}");
+                lost += gone;
+                runs += 1;
+            }
+        }
+    }
+    assert!(runs > 1000 && lost > 50, "{runs} {lost}");
+}
+
+/// A process dies after any call; another goes on from what the driver saved last, or a while before. Also where a call failed just
+/// before it died.
+#[test]
+fn dies_after_each_call() {
+    let world = World::new();
+    let mut kept = 0;
+    for (back, fault) in [(0, None), (1, None), (4, None), (0, Some(0)), (0, Some(1)), (1, Some(3))] {
+        for end in 0.. {
+            let t = Temporary::new();
+            let fault =
+                fault.map(|before| Fault { from: u64::max(end, before) - before, times: 1, error: 5, effect: end % 2 == 0 });
+            let disk = Shaky::new(&t.0, fault);
+            disk.die_after(end);
+            let mut player = Player::new(&world, false);
+            let done = opened(&disk, &t.0).is_some_and(|mut folder| player.run(&mut folder));
+            if done {
+                break;
+            }
+            disk.live(None);
+            let (mut folder, taken) = go_on(&disk, &t.0, &mut player, back);
+            kept += taken;
+            assert!(player.run(&mut folder), "end {end}");
+            all_whole(&folder, &world);
+            synced_too(&disk, &folder, &world);
+        }
+    }
+    assert!(kept > 100_000, "{kept} bytes were not fetched again");
+}
+
+/// Goes on from a manifest, or begins anew where there is none yet. Gives how many bytes of the open region it went on with.
+fn go_on(disk: &Arc<Shaky>, path: &Path, player: &mut Player, back: usize) -> (Folder, usize) {
+    let manifest = path.join("manifest~1.tsv");
+    if !manifest.exists() {
+        player.saved.push(Saved::default());
+        return (Folder::on(disk.clone(), path).unwrap(), 0);
+    }
+    true_claims(&manifest, player.world);
+    let mut folder = (0..MOST).find_map(|_| Folder::resume_on(disk.clone(), &manifest).ok()).unwrap();
+    player.resume(&mut folder, back);
+    (folder, player.now().taken)
+}
+
+/// In the process that goes on each call may fail, or it may die too.
+#[test]
+fn each_call_of_going_on_fails() {
+    let world = World::new();
+    let mut failed = 0;
+    for end in (20..110).step_by(3) {
+        for from in 0..30 {
+            for way in 0..3 {
+                let t = Temporary::new();
+                let disk = Shaky::new(&t.0, None);
+                disk.die_after(end);
+                let mut player = Player::new(&world, false);
+                if opened(&disk, &t.0).is_some_and(|mut folder| player.run(&mut folder)) {
+                    continue;
+                }
+                disk.live((way < 2).then_some(Fault { from, times: 1 + from % 2, error: 5, effect: way == 1 }));
+                if way == 2 {
+                    disk.die_after(from);
+                    let manifest = t.0.join("manifest~1.tsv");
+                    let saved = player.now();
+                    if let Ok(mut folder) = Folder::resume_on(disk.clone(), &manifest) {
+                        player.resume(&mut folder, 0);
+                        player.run(&mut folder);
+                    }
+                    // it died before it saved itself
+                    player.saved = vec![saved];
+                    disk.live(None);
+                }
+                let (mut folder, _) = go_on(&disk, &t.0, &mut player, 0);
+                assert!(player.run(&mut folder), "end {end}, from {from}");
+                all_whole(&folder, &world);
+                synced_too(&disk, &folder, &world);
+                failed += disk.failed().len();
+            }
+        }
+    }
+    assert!(failed > 1000, "{failed}");
+}
+
+/// The power goes after any call. What was not synced is there, or not, or in part. The driver was saved behind a checkpoint.
+#[test]
+fn power_goes_after_each_call() {
+    let world = World::new();
+    let mut kept = 0;
+    let some = [Survives::Some; 6];
+    for (round, survives) in
+        [Survives::Synced, Survives::All, Survives::Names, Survives::Bytes].into_iter().chain(some).enumerate()
+    {
+        for end in 0.. {
+            let (t, image) = (Temporary::new(), Temporary::new());
+            let fault = Fault { from: end / 2, times: 1, error: 5, effect: false };
+            let disk = Shaky::new(&t.0, (end % 4 == 3).then_some(fault));
+            disk.die_after(end);
+            let mut player = Player::new(&world, true);
+            let mut checked = vec![Saved::default()];
+            let mut done = false;
+            if let Some(mut folder) = opened(&disk, &t.0) {
+                player.failed = 0;
+                while !done && player.failed < MOST {
+                    let failed = player.failed;
+                    player.call(&mut folder);
+                    done = player.now().place == world.0.len();
+                    if player.failed == failed {
+                        checked.push(player.now());
+                    }
+                }
+            }
+            if done {
+                break;
+            }
+            disk.image(&image.0, survives, &mut Rng::new(1000 * round as u64 + end));
+            player.saved = checked;
+            let disk = Shaky::new(&image.0, None);
+            let (mut folder, taken) = go_on(&disk, &image.0, &mut player, 0);
+            kept += taken;
+            assert!(player.run(&mut folder), "end {end}, {survives:?}");
+            // where half of a rename was on the disk a file has two names
+            let twin = |path: &Path| survives == Survives::Some && world.0.iter().any(|r| r.1 == fs::read(path).unwrap());
+            all_whole_but(&folder, &world, twin);
+            synced_too(&disk, &folder, &world);
+        }
+    }
+    assert!(kept > 100_000, "{kept} bytes were not fetched again");
+}
+
+fn lost(closed: Result<(), Unkept>) -> String {
+    match closed {
+        Err(Unkept::Lost(e)) => e.to_string(),
+        closed => panic!("{closed:?}"),
+    }
+}
+
+/// After a sync that failed a region is not whole, however often it is closed. Its file stays, and it comes again into another.
+#[test]
+fn failed_sync() {
+    let world = World::new();
+    let (entry, bytes) = &world.0[1];
+    for at_checkpoint in [false, true] {
+        let t = Temporary::new();
+        let disk = Shaky::new(&t.0, None);
+        let mut folder = Folder::on(disk.clone(), &t.0).unwrap();
+        folder.open(1, entry).unwrap();
+        assert_eq!(folder.bytes(&bytes[..600]).unwrap(), 600);
+        if at_checkpoint {
+            disk.fail_next("sync", 5);
+            assert!(lost(folder.checkpoint()).contains("failed"));
+            // the driver does not know: its bytes are taken
+        }
+        assert_eq!(folder.bytes(&bytes[600..]).unwrap(), 100);
+        if !at_checkpoint {
+            folder.checkpoint().unwrap();
+            // the manifest's own, then the file's
+            disk.fail_next("rename", 5);
+            assert!(matches!(folder.close(1), Err(Unkept::Again(_))));
+            fail_sync_of_file(&disk, &mut folder);
+        }
+        for _ in 0..3 {
+            assert!(lost(folder.close(1)).contains("the sync of A%2FB.BIN.part failed: Input/output error"));
+        }
+        let line = &read_manifest(folder.manifest_path()).unwrap()[0];
+        assert_eq!((line.file.as_str(), line.bytes), ("A%2FB.BIN.part", 700));
+        assert!(matches!(&line.state, State::Lost(why) if why.contains("failed")));
+        assert!(fs::read(t.0.join("A%2FB.BIN.part")).unwrap() == *bytes);
+        let mut player = Player::new(&world, false);
+        player.saved = vec![Saved { place: 1, open: false, taken: 0 }];
+        player.call(&mut folder);
+        while player.now().place == 1 {
+            player.call(&mut folder);
+        }
+        assert_eq!((player.failed, folder.regions()[1].file.as_str()), (0, "A%2FB.BIN~2"));
+        synced_too(&disk, &folder, &world);
+    }
+}
+
+/// Fails the sync of the open region's file, which a close makes behind that of the manifest and of the folder.
+fn fail_sync_of_file(disk: &Shaky, folder: &mut Folder) {
+    let calls = disk.calls();
+    // create, write, sync, rename, sync; the region's
+    disk.live(Some(Fault { from: 5, times: 1, error: 5, effect: false }));
+    lost(folder.close(1));
+    assert!(calls > 0 && disk.failed() == ["rename", "sync"]);
+    disk.live(None);
+}
+
+/// A sync of the folder that failed loses nothing. The file is a part again, and gets its final name anew.
+#[test]
+fn failed_sync_of_the_folder() {
+    let world = World::new();
+    let (entry, bytes) = &world.0[3];
+    let t = Temporary::new();
+    let disk = Shaky::new(&t.0, None);
+    let mut folder = Folder::on(disk.clone(), &t.0).unwrap();
+    folder.open(3, entry).unwrap();
+    let n = folder.bytes(bytes).unwrap();
+    folder.bytes(&bytes[n..]).unwrap();
+    // the manifest's five, the file's sync, two looks, the rename, the folder's sync
+    disk.live(Some(Fault { from: 9, times: 1, error: 5, effect: false }));
+    assert!(matches!(folder.close(3), Err(Unkept::Again(e)) if e.to_string().contains("sync of the folder")));
+    assert_eq!(disk.failed(), ["sync"]);
+    assert!(t.0.join("ddr.bin.part").exists() && !t.0.join("ddr.bin").exists());
+    folder.close(3).unwrap();
+    assert_eq!((folder.regions().len(), folder.regions()[0].file.as_str()), (1, "ddr.bin"));
+    synced_too(&disk, &folder, &world);
+}
+
+/// What is handed over is written in one call, where the system takes it all.
+#[test]
+fn one_write() {
+    let t = Temporary::new();
+    let disk = Shaky::new(&t.0, None);
+    let mut folder = Folder::on(disk.clone(), &t.0).unwrap();
+    assert_eq!(folder.gathers(), 65_536);
+    folder.open(0, &entry(b"A", 0, 5000)).unwrap();
+    for _ in 0..5 {
+        let calls = disk.calls();
+        assert_eq!(folder.bytes(&[7; 500]).unwrap(), 500);
+        assert_eq!(disk.calls(), calls + 1);
+    }
+    // after a failed write the place is set first
+    disk.fail_next("write", 28);
+    assert_eq!(folder.bytes(&[7; 500]).unwrap_err().kind(), ErrorKind::StorageFull);
+    let calls = disk.calls();
+    folder.bytes(&[7; 500]).unwrap();
+    assert_eq!(disk.calls(), calls + 2);
+}
+
+/// The final name is taken by another program while the region comes: the region gets another, and the other's file stays.
+#[test]
+fn name_taken_meanwhile() {
+    let world = World::new();
+    for from in 0..40 {
+        let t = Temporary::new();
+        let disk = Shaky::new(&t.0, None);
+        let mut folder = Folder::on(disk.clone(), &t.0).unwrap();
+        let mut player = Player::new(&world, false);
+        while player.now().taken < 2500 {
+            player.call(&mut folder);
+        }
+        fs::write(t.0.join("DDR.BIN"), [7; 2500]).unwrap();
+        disk.live((from > 0).then_some(Fault { from, times: 1, error: 5, effect: from % 2 == 0 }));
+        assert!(player.run(&mut folder));
+        assert_eq!(fs::read(t.0.join("DDR.BIN")).unwrap(), [7; 2500]);
+        let regions = true_claims(folder.manifest_path(), &world);
+        let whole = regions.iter().filter(|k| k.state == State::Whole);
+        assert_eq!(whole.count(), world.0.len());
+        assert!(regions.len() == world.0.len() || from > 0);
+    }
+}
+
+/// The file is taken away, or cut, while the region comes: it is lost, and not called whole.
+#[test]
+fn file_taken_away() {
+    let world = World::new();
+    for way in 0..3 {
+        let t = Temporary::new();
+        let disk = Shaky::new(&t.0, None);
+        let mut folder = Folder::on(disk, &t.0).unwrap();
+        let mut player = Player::new(&world, false);
+        while player.now().taken < 2500 {
+            player.call(&mut folder);
+        }
+        let part = t.0.join("DDR.BIN.part");
+        match way {
+            0 => fs::remove_file(&part).unwrap(),
+            1 => File::options().write(true).open(&part).unwrap().set_len(9).unwrap(),
+            _ => {
+                fs::rename(&part, t.0.join("elsewhere")).unwrap();
+                std::os::unix::fs::symlink("elsewhere", &part).unwrap();
+            }
+        }
+        assert!(lost(folder.close(0)).contains("not there any more"));
+        player.saved.push(Saved::default());
+        assert!(player.run(&mut folder));
+        assert_eq!(true_claims(folder.manifest_path(), &world)[1].file, "DDR.BIN~2");
+    }
+}
+
+/// The folders are made, one by one, whatever call fails.
+#[test]
+fn folders_are_made() {
+    use std::os::unix::fs::PermissionsExt;
+    for from in 0..12 {
+        let t = Temporary::new();
+        let path = t.0.join("a/b/c");
+        let disk = Shaky::new(&path, Some(Fault { from, times: 1, error: 5, effect: false }));
+        let folder = opened(&disk, &path).unwrap();
+        assert_eq!(disk.failed().len(), 1);
+        for path in [folder.path(), &t.0.join("a/b"), &t.0.join("a")] {
+            assert_eq!(fs::metadata(path).unwrap().permissions().mode() & 0o777, 0o700);
+        }
+    }
+}
