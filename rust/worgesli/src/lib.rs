@@ -3,7 +3,7 @@
 //! What a step does is proved; this crate calls the proved archive and moves the bytes. [`sahara_run`] runs a host over any channel
 //! that reads and writes. [`Driver`] is the same as a value that survives time-outs. [`Session`] is the bare host.
 #![doc = include_str!("../../README.md")]
-#![deny(unsafe_code)]
+#![deny(unsafe_code, missing_docs)]
 
 mod bundle;
 mod disk;

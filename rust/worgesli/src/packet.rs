@@ -4,28 +4,46 @@ use crate::{raw, Command, Mode, Refusal};
 /// The six unused words of a hello.
 pub type Unk = [u32; 6];
 
-/// A packet's body, by kind.
+/// A packet's body, by kind; the fields have the original's names.
 #[derive(Clone, Copy, Debug, PartialEq, Eq)]
+#[non_exhaustive]
+#[allow(missing_docs)]
 pub enum Body {
+    /// Hello (1): a device offers a mode
     HelloReq { ver: u32, compatible: u32, max_len: u32, mode: Mode, unk: Unk },
+    /// HelloResp (2): the host's answer
     HelloResp { ver: u32, compatible: u32, status: u32, mode: Mode, unk: Unk },
+    /// ReadData (3): a part of an image is asked for
     ReadReq { image: u32, offset: u32, len: u32 },
+    /// EndOfImage (4)
     Eoi { image: u32, status: u32 },
+    /// Done (5)
     DoneReq,
+    /// DoneResp (6)
     DoneResp { status: u32 },
+    /// ResetResp (8)
     ResetResp,
+    /// CommandReady (0x0b): a device waits for a command
     CommandReady,
+    /// ExecuteResp (0x0e): a reply of this length is there
     ExecResp { command: Command, len: u32 },
+    /// ExecuteData (0x0f): the host asks for the reply
     ExecData { command: Command },
+    /// MemDebug64 (0x10): a device offers its memory, whose table is there
     Debug64Req { addr: u64, len: u64 },
+    /// MemRead64 (0x11): the host asks for memory
     ReadMem64Req { addr: u64, len: u64 },
+    /// ReadData64 (0x12): a part of an image is asked for
     ReadData64Req { image: u64, offset: u64, len: u64 },
 }
 
 /// A decoded packet. Its length field is not judged.
 #[derive(Clone, Copy, Debug, PartialEq, Eq)]
+#[non_exhaustive]
 pub struct Packet {
+    /// the length field
     pub len: u32,
+    /// what follows it
     pub body: Body,
 }
 

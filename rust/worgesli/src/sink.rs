@@ -57,8 +57,11 @@ impl<S: Sink + ?Sized> Sink for &mut S {
 /// Counts regions and bytes, and keeps nothing.
 #[derive(Clone, Copy, Debug, Default, PartialEq, Eq)]
 pub struct Count {
+    /// regions that were opened
     pub opened: u64,
+    /// regions that were closed
     pub closed: u64,
+    /// their bytes
     pub bytes: u64,
 }
 

@@ -7,10 +7,15 @@ pub const ENTRY: usize = 64;
 /// An entry of the memory table: a region.
 #[derive(Clone, Copy, Debug, PartialEq, Eq)]
 pub struct Entry {
+    /// not 0: dumped where no names are given
     pub save_pref: u64,
+    /// its address
     pub base: u64,
+    /// its length
     pub len: u64,
+    /// what it is, for people
     pub description: [u8; 20],
+    /// its name, with a zero byte behind it
     pub filename: [u8; 20],
 }
 

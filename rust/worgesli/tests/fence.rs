@@ -55,7 +55,6 @@ unsafe impl GlobalAlloc for Fence {
 #[global_allocator]
 static FENCE: Fence = Fence;
 
-
 #[test]
 fn images_and_replies() {
     for seed in 0..50 {
@@ -63,7 +62,7 @@ fn images_and_replies() {
         let all = image.len() as u32;
         let mut wire = Wire::new(Device::load(&[(0, 0, all), (0, all, 0), (0, 100, 400)], b""), Division::Random, seed);
         let names = ["a name", "another"];
-        let mut driver = Options::new(Backend::Usb, Mode::WaitingForImage).images(&[Some(image)]).names(&names).start().unwrap();
+        let mut driver = Options::new(Backend::Usb, Mode::WaitingForImage).images(&[Some(image)]).names(names).start().unwrap();
         assert_eq!(driver.run(&mut wire, &mut Count::default(), |_| ()).unwrap(), Outcome::ImagesSent);
         let reply = vec![9; 65_536 - seed as usize];
         let mut wire = Wire::new(Device::command(1, &reply, b""), Division::Random, seed);

@@ -3,7 +3,9 @@ use crate::saved::Gathering;
 use crate::world::{world, Kept, Record, World};
 use device::{Device, Division, Faults, Memory, Region, Turn, Wire};
 use std::io::{self, ErrorKind, Read, Write};
-use worgesli::{sahara_run, Answer, Backend, Command, Count, Driver, Entry, Error, Mode, Options, Outcome, Phase, Session, Sink, Unkept};
+use worgesli::{
+    sahara_run, Answer, Backend, Command, Count, Driver, Entry, Error, Mode, Options, Outcome, Phase, Session, Sink, Unkept,
+};
 
 const NO_IMAGES: &[Option<Vec<u8>>] = &[];
 
@@ -73,7 +75,8 @@ fn time_outs_in_images_and_replies() {
         };
         let n = bytes.len() as u32;
         let device = Device::load(&[(5, 0, n), (5, n / 2, n - n / 2)], b"loader");
-        let (outcome, heard, left) = run(device, Options::new(Backend::Usb, Mode::WaitingForImage).images(&[Some(bytes.clone())]));
+        let (outcome, heard, left) =
+            run(device, Options::new(Backend::Usb, Mode::WaitingForImage).images(&[Some(bytes.clone())]));
         assert_eq!((outcome, left), (Outcome::ImagesSent, 6));
         let sent = [&bytes[..], &bytes[n as usize / 2..], &device::packet(5, &[])].concat();
         assert!(heard[48..] == sent, "seed {seed}");

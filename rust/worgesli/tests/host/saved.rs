@@ -180,7 +180,12 @@ fn lost_at_the_close() {
 fn lost_at_the_reopening() {
     for stop in 6..60 {
         let regions = [Region::new("A.BIN", 7, 9000), Region::new("B.BIN", 1 << 20, 100)];
-        let w = crate::world::World { memory: Memory::new(2, 1 << 40, &regions), regions: regions.to_vec(), names: vec![], backend: Backend::Usb };
+        let w = crate::world::World {
+            memory: Memory::new(2, 1 << 40, &regions),
+            regions: regions.to_vec(),
+            names: vec![],
+            backend: Backend::Usb,
+        };
         let mut wire = Wire::new(Device::dump(w.memory.clone()), Division::AtMost(1000), 1);
         let mut sink = Loses(Record::default(), 0, 1);
         let mut run = w.options().start().unwrap();

@@ -47,7 +47,14 @@ fn fetch(folder: &Path) -> i32 {
 }
 
 /// So many steps with a folder that is opened or reopened first; true at the end.
-fn turn(folder: &Path, saved: bool, sink: &mut Option<Folder>, run: &mut Driver, channel: &mut File, steps: u64) -> Result<bool, Error> {
+fn turn(
+    folder: &Path,
+    saved: bool,
+    sink: &mut Option<Folder>,
+    run: &mut Driver,
+    channel: &mut File,
+    steps: u64,
+) -> Result<bool, Error> {
     let sink = match sink {
         Some(sink) => sink,
         None => {

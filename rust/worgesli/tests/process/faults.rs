@@ -13,7 +13,11 @@ fn shim(folder: &Path) -> Option<PathBuf> {
     let source = concat!(env!("CARGO_MANIFEST_DIR"), "/tests/process/shim.c");
     let library = folder.join("shim.so");
     let cc = std::env::var("CC").unwrap_or("cc".into());
-    let status = Command::new(&cc).args(["-shared", "-fPIC", "-O1", "-Wall", "-Wextra", "-Werror", "-o"]).arg(&library).arg(source).status();
+    let status = Command::new(&cc)
+        .args(["-shared", "-fPIC", "-O1", "-Wall", "-Wextra", "-Werror", "-o"])
+        .arg(&library)
+        .arg(source)
+        .status();
     match status {
         Ok(status) => {
             assert!(status.success(), "{cc} failed");
