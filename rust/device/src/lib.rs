@@ -9,7 +9,7 @@ mod wire;
 pub use memory::{Memory, Region};
 pub use packets::*;
 pub use rng::Rng;
-pub use socket::{serve, Socket};
+pub use socket::{serve, serve_until, Socket};
 pub use wire::{Division, Faults, Wire};
 
 use std::collections::VecDeque;

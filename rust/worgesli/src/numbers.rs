@@ -145,17 +145,13 @@ impl std::error::Error for Refusal {}
 #[cfg(test)]
 mod tests {
     use super::Refusal;
+    use crate::raw::interface::tool;
 
     /// The words are those of the C header.
     #[test]
     fn words_of_the_header() {
-        let header = concat!(env!("CARGO_MANIFEST_DIR"), "/../../include/worgesli.h");
-        let header = std::fs::read_to_string(header).unwrap();
-        let block = header.split("/* refusals").nth(1).unwrap().split("*/").next().unwrap();
-        let said: Vec<String> = block.lines().skip(1).map(|l| l.trim_start_matches(" *").trim().to_string()).collect();
-        let ours: Vec<String> = (1..=23).map(|n| format!("{n}  {}", Refusal(n).words())).collect();
-        assert_eq!(said[..23], ours);
-        assert!(said[23..].iter().all(String::is_empty));
+        let ours: Vec<String> = (1..=23).map(|n| format!("{n}\t{}", Refusal(n).words())).collect();
+        assert_eq!(tool("refusals").lines().collect::<Vec<_>>(), ours);
         assert_eq!((Refusal(0).words(), Refusal(24).words()), ("no such refusal", "no such refusal"));
     }
 }
