@@ -70,7 +70,7 @@ extern "C" {
 #define WORGESLI_ANSWER_GO 0u         /* nothing is to be done */
 #define WORGESLI_ANSWER_SEND 1u       /* send the first `first` bytes of out */
 #define WORGESLI_ANSWER_IMAGE 2u      /* send `second` bytes of the image set from its byte `first` on */
-#define WORGESLI_ANSWER_OPEN 3u       /* a region begins: entry `first` of the table (worgesli_entry_at), whose filename has a zero byte */
+#define WORGESLI_ANSWER_OPEN 3u       /* a region begins: entry `first` of the table (worgesli_entry_at). Its filename is any UTF-8 up to a zero byte: no path yet */
 #define WORGESLI_ANSWER_BYTES 4u      /* the first `first` bytes of the delivery are the open region's next: keep them */
 #define WORGESLI_ANSWER_EMPTY_READ 5u /* read from USB once into an empty buffer: an empty packet ends the transfer */
 #define WORGESLI_ANSWER_CLOSE 6u      /* entry `first` is whole: all its bytes were handed out */
@@ -83,9 +83,9 @@ extern "C" {
 #define WORGESLI_FINISHED_DUMPED 3u      /* the memory is dumped: every selected region was closed, in table order */
 #define WORGESLI_FINISHED_REPLY 4u       /* a reply is there: the first session.count bytes of reply */
 
-/* why a step is refused: number, name and words, the first that applies in the order of the requirement.
- * 1, 2, 3, 4 and 18 are the caller's: session and buffers are as they were, nothing is taken, and but for 4 the step can be made again with what it lacked.
- * After each other the session has ended; what the open region has so far is right, and not all of it. */
+/* why a step is refused: number, name (WORGESLI_REFUSED_...) and words (worgesli_refusal_text), the first that applies in the order of the requirement.
+ * 1, 2, 3, 4 and 18 are the caller's: session and buffers are as they were, nothing is taken, and once the bundle or buffer is right the step can be made.
+ * Each other ends the session: what was handed out of the open region is as it came, and not all of it. */
 #define WORGESLI_REFUSALS(X)                                                                                                 \
     X(1, IMAGE_SET, "the image set is malformed: its length, a slot's range, or more than 64 slots")                         \
     X(2, NAME_LIST, "the name list is malformed: its length, a name's range, an absent name, or more than 64 names")         \

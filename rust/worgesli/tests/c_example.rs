@@ -1,5 +1,5 @@
-//! examples/fetch.c, compiled as README.md says, fetches from the simulated device; and again under the sanitizers, its system calls failing as they may
-//! (tests/c/faults.c). The header's bundles beside the crate's.
+//! examples/fetch.c, compiled as README.md says, fetches from the simulated device; and again under the sanitizers, with system
+//! calls that fail as they may (tests/c/faults.c). The header's bundles beside the crate's.
 use device::{done_resp, execute_resp, hello, read_data, reset_resp, serve_until, Device, Memory, Region, Rng, Turn};
 use std::collections::BTreeMap;
 use std::ffi::c_int;
@@ -27,7 +27,7 @@ fn not_run(what: &str) {
     let _ = writeln!(io::stderr(), "c_example: {what}");
 }
 
-/// Whether the shell command succeeds, in the repository.
+/// A shell's command, in the repository.
 fn shell(line: &str) -> Output {
     let line = match std::env::var("WORGESLI_ARCHIVE_DIR") {
         Ok(folder) => line.replace("target/staticlib", &folder),
@@ -45,7 +45,8 @@ fn compiled(line: &str) {
 /// The line of README.md that compiles the example, and where it puts it.
 fn line_of_the_readme() -> (String, PathBuf) {
     let readme = fs::read_to_string(root().join("README.md")).unwrap();
-    let lines: Vec<&str> = readme.lines().map(str::trim).filter(|l| l.starts_with("cc ") && l.contains("examples/fetch.c")).collect();
+    let lines: Vec<&str> =
+        readme.lines().map(str::trim).filter(|l| l.starts_with("cc ") && l.contains("examples/fetch.c")).collect();
     assert_eq!(lines.len(), 1, "README.md has one line that compiles examples/fetch.c");
     let to = lines[0].rsplit_once(" -o ").unwrap().1;
     (lines[0].into(), root().join(to))
@@ -76,11 +77,18 @@ fn example(build: Build) -> Option<&'static Path> {
     });
     let checked = CHECKED.get_or_init(|| {
         let plain = plain.as_ref()?;
-        if !shell(&format!("echo 'int main(void) {{ return 0; }}' | cc {SANITIZED} -x c - -o {0}.tried && {0}.tried", plain.display())).status.success() {
+        if !shell(&format!(
+            "echo 'int main(void) {{ return 0; }}' | cc {SANITIZED} -x c - -o {0}.tried && {0}.tried",
+            plain.display()
+        ))
+        .status
+        .success()
+        {
             not_run("the C compiler has no sanitizers: examples/fetch.c was NOT run with them and with faults");
             return None;
         }
-        let wrapped: String = ["read", "write", "poll", "fsync", "openat", "renameat", "fstatat"].map(|c| format!(" -Wl,--wrap={c}")).concat();
+        let wrapped: String =
+            ["read", "write", "poll", "fsync", "openat", "renameat", "fstatat"].map(|c| format!(" -Wl,--wrap={c}")).concat();
         let (line, to) = line_of_the_readme();
         let checked = to.with_file_name("fetch-checked");
         let line = line.replace("examples/fetch.c", &format!("-U_FORTIFY_SOURCE {SANITIZED} examples/fetch.c tests/c/faults.c"));
@@ -232,8 +240,10 @@ const NAMES: &[(&str, &str)] = &[
     ("apart", "apart"),
     ("a\\b:c*d?\"e", "a%5Cb%3Ac%2Ad%3F%22e"),
     ("\u{e9}\u{1f600}", "%C3%A9%F0%9F%98%80"),
-    ("\u{1}\u{2}\u{3}\u{4}\u{5}\u{6}\u{7}\u{8}\u{9}\u{a}\u{b}\u{c}\u{d}\u{e}\u{f}\u{10}\u{11}\u{12}\u{13}",
-     "%01%02%03%04%05%06%07%08%09%0A%0B%0C%0D%0E%0F%10%11%12%13"),
+    (
+        "\u{1}\u{2}\u{3}\u{4}\u{5}\u{6}\u{7}\u{8}\u{9}\u{a}\u{b}\u{c}\u{d}\u{e}\u{f}\u{10}\u{11}\u{12}\u{13}",
+        "%01%02%03%04%05%06%07%08%09%0A%0B%0C%0D%0E%0F%10%11%12%13",
+    ),
     ("ABCDEFGHIJKLMNOPQRS", "ABCDEFGHIJKLMNOPQRS"),
 ];
 
@@ -295,7 +305,11 @@ fn fetches() {
             let device = device.unwrap();
             let chunks: u64 = regions.iter().map(|r| r.len.div_ceil(4096)).sum();
             assert_eq!((device.wrong(), device.reads()), (None, 1 + chunks));
-            assert!(said.out.ends_with(&format!("every selected region is whole: {}, with {} memory reads\n", regions.len(), 1 + chunks)));
+            assert!(said.out.ends_with(&format!(
+                "every selected region is whole: {}, with {} memory reads\n",
+                regions.len(),
+                1 + chunks
+            )));
             for (name, region) in names.iter().zip(&regions) {
                 assert!(said.out.contains(&format!("{name}: {} bytes\n", region.len)));
             }
@@ -308,7 +322,8 @@ fn fetches() {
 
 #[test]
 fn every_filename() {
-    let regions: Vec<Region> = NAMES.iter().enumerate().map(|(i, (name, _))| Region::new(name, (i as u64) << 32, 100 + i as u64)).collect();
+    let regions: Vec<Region> =
+        NAMES.iter().enumerate().map(|(i, (name, _))| Region::new(name, (i as u64) << 32, 100 + i as u64)).collect();
     let names: Vec<String> = NAMES.iter().map(|(_, plain)| plain.to_string()).collect();
     for build in builds() {
         let memory = memory(1, &regions);
@@ -321,14 +336,19 @@ fn every_filename() {
 
 #[test]
 fn selected_by_name() {
-    let regions = [Region::new("TAKE.BIN", 0, 10), Region::new("OCIMEM.BIN", 100, 20).unpreferred(), Region::new("OTHER.BIN", 200, 30)];
+    let regions =
+        [Region::new("TAKE.BIN", 0, 10), Region::new("OCIMEM.BIN", 100, 20).unpreferred(), Region::new("OTHER.BIN", 200, 30)];
     let memory = memory(2, &regions);
     for build in builds() {
-        for (names, files) in [(vec!["ocimem", "Take"], vec!["OCIMEM.BIN", "TAKE.BIN"]), (vec![], vec!["OTHER.BIN", "TAKE.BIN"])] {
+        for (names, files) in [(vec!["ocimem", "Take"], vec!["OCIMEM.BIN", "TAKE.BIN"]), (vec![], vec!["OTHER.BIN", "TAKE.BIN"])]
+        {
             let temporary = Temporary::new();
             let call = Call { names: names.iter().map(|n| n.to_string()).collect(), ..Call::new(build) };
             let (said, _) = call.run(Device::dump(memory.clone()), 1, u64::MAX, &temporary.dump());
-            assert_eq!((said.status, temporary.files().into_keys().collect::<Vec<_>>()), (Some(0), files.iter().map(|f| f.to_string()).collect()));
+            assert_eq!(
+                (said.status, temporary.files().into_keys().collect::<Vec<_>>()),
+                (Some(0), files.iter().map(|f| f.to_string()).collect())
+            );
         }
         // none of this name: no success
         let temporary = Temporary::new();
@@ -403,7 +423,9 @@ fn the_device_dies() {
             let call = Call { usb: seed % 2 == 0, faults: (build == Build::Checked).then_some(seed), ..Call::new(build) };
             let (said, _) = call.run(Device::dump(memory.clone()), seed, left, &temporary.dump());
             // it may be gone before it was asked
-            let reason = ["the channel was closed", "writing to the port", "reading from the port"].iter().find(|r| said.error.contains(**r));
+            let reason = ["the channel was closed", "writing to the port", "reading from the port"]
+                .iter()
+                .find(|r| said.error.contains(**r));
             said.failed(reason.unwrap_or_else(|| panic!("{said:?}")));
             let files = temporary.files();
             let whole = held(&files, &memory, &regions, &names);
@@ -414,7 +436,10 @@ fn the_device_dies() {
             assert_eq!(kept as u64, left.saturating_sub(72 + 64 * regions.len() as u64), "{said:?}");
             if let Some(part) = parts {
                 let len = regions[whole].len;
-                assert!(said.error.contains(&format!("NOT whole: {part} has {} of {len} bytes\n", files[part].len())), "{said:?}");
+                assert!(
+                    said.error.contains(&format!("NOT whole: {part} has {} of {len} bytes\n", files[part].len())),
+                    "{said:?}"
+                );
             }
         }
     }
@@ -444,7 +469,7 @@ fn calls_that_fail() {
     let regions = [Region::new("A", 0, 5000), Region::new("B", 1 << 20, 5000), Region::new("C", 1 << 21, 0)];
     let names = ["A", "B", "C"].map(String::from);
     let memory = memory(6, &regions);
-    // how many such calls a fetch makes: of each region's file and then of the folder, and of the new folder's own; writes as the bytes come
+    // how many such calls a fetch makes: for the new folder, then for each region's file and its name; writes as the bytes come
     for (name, error, says, calls) in [
         ("write", 28, "No space left on device", None),
         ("write", 5, "Input/output error", None),
@@ -468,7 +493,8 @@ fn calls_that_fail() {
             said.failed(says);
             failed += 1;
             // it has its name when its bytes are on the disk, and is called whole when the name is too
-            let (named, called) = if name == "fsync" { ((n - 1) / 2, (n - 1).saturating_sub(1) / 2) } else { (whole as u64, whole as u64) };
+            let (named, called) =
+                if name == "fsync" { ((n - 1) / 2, (n - 1).saturating_sub(1) / 2) } else { (whole as u64, whole as u64) };
             assert_eq!(whole as u64, named, "{call:?} {said:?}");
             assert!(said.error.contains(&format!("whole regions: {called}\n")), "{call:?} {said:?}");
         }
@@ -493,7 +519,10 @@ fn gone_when_it_is_answered() {
 #[test]
 fn other_devices() {
     let say = |packets: Vec<Vec<u8>>| {
-        Device::new(Memory::empty(), [vec![Turn::Say(hello(2)), Turn::Hear(48)], packets.into_iter().map(Turn::Say).collect()].concat())
+        Device::new(
+            Memory::empty(),
+            [vec![Turn::Say(hello(2)), Turn::Hear(48)], packets.into_iter().map(Turn::Say).collect()].concat(),
+        )
     };
     let table = |table: Vec<u8>| Device::dump(Memory::with_table(1, 0, table));
     let wide = Region { filename: *b"12345678901234567890", ..Region::new("", 0, 1) };
@@ -528,7 +557,9 @@ fn silence() {
         let temporary = Temporary::new();
         let (near, _far) = UnixStream::pair().unwrap();
         let start = Instant::now();
-        let said = Said::by(Command::new(example(build).unwrap()).args(["-t", "40", "0"]).arg(temporary.dump()).stdin(OwnedFd::from(near)));
+        let said = Said::by(
+            Command::new(example(build).unwrap()).args(["-t", "40", "0"]).arg(temporary.dump()).stdin(OwnedFd::from(near)),
+        );
         said.failed("the channel was closed before the end");
         assert!((200..5000).contains(&start.elapsed().as_millis()), "{:?}", start.elapsed());
     }
@@ -539,14 +570,17 @@ fn wrong_calls() {
     for build in builds() {
         let temporary = Temporary::new();
         let names = vec!["n"; 65];
-        let usage = [&["0"][..], &[], &["-x", "0", "dump"], &["-t", "0", "0", "dump"], &["-t"], &[&["0", "dump"], &names[..]].concat()];
+        let usage =
+            [&["0"][..], &[], &["-x", "0", "dump"], &["-t", "0", "0", "dump"], &["-t"], &[&["0", "dump"], &names[..]].concat()];
         for args in usage {
             let call = Command::new(example(build).unwrap()).args(args).current_dir(&temporary.0).output().unwrap();
             assert_eq!(call.status.code(), Some(2), "{args:?}");
             assert!(String::from_utf8(call.stderr).unwrap().contains("usage:"));
         }
         File::create(temporary.0.join("file")).unwrap();
-        for (port, folder, why) in [("no-port", "dump", "No such file"), ("99", "dump", "Bad file descriptor"), ("0", "file", "Not a directory")] {
+        for (port, folder, why) in
+            [("no-port", "dump", "No such file"), ("99", "dump", "Bad file descriptor"), ("0", "file", "Not a directory")]
+        {
             let mut call = Command::new(example(build).unwrap());
             Said::by(call.args([port, folder]).current_dir(&temporary.0).stdin(Stdio::null())).failed(why);
         }
@@ -571,7 +605,9 @@ impl Terminal {
         let file = OpenOptions::new().read(true).write(true).custom_flags(0o400).open("/dev/ptmx").ok()?;
         let mut name = [0u8; 64];
         // Safe: an open descriptor, and a buffer of that length.
-        let made = unsafe { (grantpt(file.as_raw_fd()), unlockpt(file.as_raw_fd()), ptsname_r(file.as_raw_fd(), name.as_mut_ptr(), 64)) };
+        let made = unsafe {
+            (grantpt(file.as_raw_fd()), unlockpt(file.as_raw_fd()), ptsname_r(file.as_raw_fd(), name.as_mut_ptr(), 64))
+        };
         assert_eq!(made, (0, 0, 0));
         let len = name.iter().position(|b| *b == 0).unwrap();
         Some((Terminal(file), String::from_utf8(name[..len].to_vec()).unwrap()))
@@ -617,7 +653,11 @@ fn over_a_terminal() {
             // it stays open here too, or its far end has none to talk to before the program opens it
             let near = OpenOptions::new().read(true).write(true).custom_flags(0o400).open(&path).unwrap();
             assert!(!far.raw());
-            let child = Call { faults: (build == Build::Checked).then_some(seed), ..Call::new(build) }.spawn(&path, Stdio::null(), &temporary.dump());
+            let child = Call { faults: (build == Build::Checked).then_some(seed), ..Call::new(build) }.spawn(
+                &path,
+                Stdio::null(),
+                &temporary.dump(),
+            );
             let since = Instant::now();
             while !far.raw() {
                 assert!(since.elapsed() < Duration::from_secs(20), "the terminal is not made raw");
@@ -662,7 +702,10 @@ fn bundles() {
     let Some(plain) = example(Build::Plain) else { return };
     let program = plain.with_file_name("bundles");
     let sanitized = if example(Build::Checked).is_some() { SANITIZED } else { "" };
-    compiled(&format!("cc -std=c11 -O1 -Wall -Wextra -Werror {sanitized} -Iinclude tests/c/bundles.c target/staticlib/libworgesli.a -o {}", program.display()));
+    compiled(&format!(
+        "cc -std=c11 -O1 -Wall -Wextra -Werror {sanitized} -Iinclude tests/c/bundles.c target/staticlib/libworgesli.a -o {}",
+        program.display()
+    ));
     let mut rng = Rng::new(8);
     let (mut input, mut expected) = (Vec::new(), Vec::new());
     for n in (0..=64).chain([1, 1, 1, 2, 2, 2, 3, 3, 3, 64, 64, 64]) {

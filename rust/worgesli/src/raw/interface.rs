@@ -71,7 +71,9 @@ fn parameter(name: &str, type_: &str) -> String {
 #[test]
 fn functions_are_those_of_the_source() {
     let block = SOURCE.split_once("unsafe extern \"C\" {\n").unwrap().1.split_once("\n}\n").unwrap().0;
-    let line = |f: &str| f.split_whitespace().collect::<Vec<_>>().join(" ").replace("( ", "(").replace(", )", ")").replace("pub safe fn", "pub fn");
+    let line = |f: &str| {
+        f.split_whitespace().collect::<Vec<_>>().join(" ").replace("( ", "(").replace(", )", ")").replace("pub safe fn", "pub fn")
+    };
     let ours: Vec<String> = block.split(';').map(line).filter(|f| !f.is_empty()).collect();
     let theirs = lines("function").into_iter().map(|f| {
         let parameters: Vec<String> = f[2..].iter().map(|p| p.split_once(':').unwrap()).map(|(n, t)| parameter(n, t)).collect();
