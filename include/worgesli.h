@@ -19,7 +19,8 @@
  * A bundle: slot count n (at most WORGESLI_SLOTS) and data size, 4 bytes each; n starts, n lengths, 4 bytes each; the data. Numbers are little-endian, a
  * start counts from the data's beginning, ranges may overlap, and nothing follows the data. Start 0xFFFFFFFF with length 0: the slot is absent, which an
  * image set may have and a name list not. worgesli_bundle makes one. The slot of an image is its ID; where there is one slot, it serves every ID. A name
- * selects the regions whose filename up to its first '.' is the same but for case ("ocimem": OCIMEM.BIN); no names: those that the device prefers.
+ * selects the regions whose filename up to its first '.' is the same but for case ("ocimem": OCIMEM.BIN; where a filename has no '.', all its 20 bytes, zeros
+ * too); no names: those that the device prefers.
  */
 #ifndef WORGESLI_H
 #define WORGESLI_H
