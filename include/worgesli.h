@@ -1,8 +1,26 @@
-/* Worgesli: a proved host of the Sahara protocol. C interface of libworgesli.a (x86-64 Linux; `rt staticlib worgesli`).
+/* Worgesli: a proved host of the Sahara protocol. C interface of libworgesli.a (x86-64 Linux; `rt staticlib worgesli`), for C11 and C++11.
  *
  * No function does input or output, keeps anything, or allocates. A byte string crosses as a pointer and a length; NULL with length 0 is allowed.
  * The caller sees to two things: a pointer has as many bytes as its length, or as its array, says, and what is not const overlaps no other argument.
- * Everything else is defined, whatever the arguments. Refusals are numbers from 1 to 23, listed below.
+ * Everything else is defined, whatever the arguments.
+ *
+ * A fetch: open a session (worgesli_open). Then, until an answer is finished or refused: ask how many bytes the next step wants (worgesli_wanted_at), read
+ * at most so many from the device where it is not 0, make the step with what came, even if it is less (worgesli_step_at), and do what it answers, all of
+ * it, before the next step. Bytes that came and were not taken (`taken`) are lent again. examples/fetch.c is such a program.
+ *
+ * What is lent to each step of a session (worgesli_lent):
+ *   set, names  an image set and a name list, each a bundle; empty ones are 8 zero bytes. Not well formed: refused 1, 2
+ *   table       where the device's memory table goes: the same bytes in each step. It may have up to WORGESLI_TABLE_LEN, and one that is announced
+ *               longer than what is lent, or than that, is refused 17. NULL where no memory is dumped
+ *   reply       where the response to a command goes: the same bytes in each step, as many as the caller likes; a longer response is refused 16
+ *   out         where packets are built that are to be sent: at least WORGESLI_OUT_LEN bytes, or refused 3
+ * A table or reply that is shorter in a later step than what it is to hold: refused 18.
+ *
+ * A bundle: slot count n (at most WORGESLI_SLOTS) and data size, 4 bytes each; n starts, n lengths, 4 bytes each; the data. Numbers are little-endian, a
+ * start counts from the data's beginning, ranges may overlap, and nothing follows the data. Start 0xFFFFFFFF with length 0: the slot is absent, which an
+ * image set may have and a name list not. worgesli_bundle makes one. The slot of an image is its ID; where there is one slot, it serves every ID. A name
+ * selects the regions whose filename up to its first '.' is the same but for case ("ocimem": OCIMEM.BIN; where a filename has no '.', all its 20 bytes, zeros
+ * too); no names: those that the device prefers.
  */
 #ifndef WORGESLI_H
 #define WORGESLI_H
@@ -10,74 +28,91 @@
 #include <stdbool.h>
 #include <stddef.h>
 #include <stdint.h>
+#include <string.h>
 
 #ifdef __cplusplus
 extern "C" {
 #endif
 
+/* The number of this interface: another where a struct or a function is another. A file that includes this header links only with an archive of the same
+ * number. Who finds the functions at run time (dlopen) defines WORGESLI_AT_RUN_TIME before, and compares worgesli_abi() with it. */
+#define WORGESLI_ABI 1
+
+#define WORGESLI_OUT_LEN 48
+#define WORGESLI_TABLE_LEN 65536
+#define WORGESLI_SLOTS 64
+
 /* mode */
-#define WORGESLI_WAITING_FOR_IMAGE 0u
-#define WORGESLI_MEMORY_DEBUG 2u
-#define WORGESLI_COMMAND 3u
+#define WORGESLI_MODE_WAITING_FOR_IMAGE 0u
+#define WORGESLI_MODE_MEMORY_DEBUG 2u
+#define WORGESLI_MODE_COMMAND 3u
 
-/* command: 0..3, or none */
-#define WORGESLI_NOP 0u
-#define WORGESLI_READ_SERIAL_NUM 1u
-#define WORGESLI_READ_HW_ID 2u
-#define WORGESLI_READ_OEM_KEY_HASH 3u
-#define WORGESLI_NO_COMMAND 0xFFFFFFFFu
+/* command of a session */
+#define WORGESLI_COMMAND_NOP 0u
+#define WORGESLI_COMMAND_READ_SERIAL_NUM 1u
+#define WORGESLI_COMMAND_READ_HW_ID 2u
+#define WORGESLI_COMMAND_READ_OEM_KEY_HASH 3u
+#define WORGESLI_COMMAND_NONE 0xFFFFFFFFu
 
-/* backend */
-#define WORGESLI_SERIAL 0u
-#define WORGESLI_USB 1u
+/* backend: with USB there are empty reads */
+#define WORGESLI_BACKEND_SERIAL 0u
+#define WORGESLI_BACKEND_USB 1u
 
 /* phase of a session */
-#define WORGESLI_PACKET 0u   /* count: packet bytes held */
-#define WORGESLI_RESPONSE 1u /* count: declared length; at: bytes there */
-#define WORGESLI_SWITCHED 2u /* count: the reply's length */
-#define WORGESLI_TABLE 3u    /* count: declared length; at: bytes there */
-#define WORGESLI_BETWEEN 4u  /* count: the table's length; at: entry to go on from */
-#define WORGESLI_REGION 5u   /* count: the table's length; at: entry */
-#define WORGESLI_ENDED 6u    /* count: the reply's length, where one came */
+#define WORGESLI_PHASE_PACKET 0u   /* count: packet bytes held */
+#define WORGESLI_PHASE_RESPONSE 1u /* count: declared length; at: bytes there */
+#define WORGESLI_PHASE_SWITCHED 2u /* count: the reply's length */
+#define WORGESLI_PHASE_TABLE 3u    /* count: declared length; at: bytes there */
+#define WORGESLI_PHASE_BETWEEN 4u  /* count: the table's length; at: entry to go on from */
+#define WORGESLI_PHASE_REGION 5u   /* count: the table's length; at: entry */
+#define WORGESLI_PHASE_ENDED 6u    /* count: the reply's length, where one came */
 
 /* answer of a step */
-#define WORGESLI_GO 0u         /* step again, with more bytes if it wants any */
-#define WORGESLI_SEND 1u       /* send the first `first` bytes of out */
-#define WORGESLI_IMAGE 2u      /* send `second` bytes of the image set from `first` on */
-#define WORGESLI_OPEN 3u       /* entry `first` of the table is opened */
-#define WORGESLI_BYTES 4u      /* the first `first` bytes of the delivery are the open region's */
-#define WORGESLI_EMPTY_READ 5u /* read from USB once more: an empty packet ends the transfer */
-#define WORGESLI_CLOSE 6u      /* entry `first` is done */
-#define WORGESLI_FINISHED 7u   /* how: `first`; memory reads: `second` */
-#define WORGESLI_REFUSED 8u    /* why: `first` */
+#define WORGESLI_ANSWER_GO 0u         /* nothing is to be done */
+#define WORGESLI_ANSWER_SEND 1u       /* send the first `first` bytes of out */
+#define WORGESLI_ANSWER_IMAGE 2u      /* send `second` bytes of the image set from its byte `first` on */
+#define WORGESLI_ANSWER_OPEN 3u       /* a region begins: entry `first` of the table (worgesli_entry_at). Its filename is any UTF-8 up to a zero byte: no path yet */
+#define WORGESLI_ANSWER_BYTES 4u      /* the first `first` bytes of the delivery are the open region's next: keep them */
+#define WORGESLI_ANSWER_EMPTY_READ 5u /* read from USB once into an empty buffer: an empty packet ends the transfer */
+#define WORGESLI_ANSWER_CLOSE 6u      /* entry `first` is whole: all its bytes were handed out */
+#define WORGESLI_ANSWER_FINISHED 7u   /* the session has ended; how: `first`; memory reads: `second` */
+#define WORGESLI_ANSWER_REFUSED 8u    /* why: `first` */
 
-/* refusals: the numbers of the requirement, the first that applies in its order
- *  1  the image set is malformed: its length, a slot's range, or more than 64 slots
- *  2  the name list is malformed: its length, a name's range, an absent name, or more than 64 names
- *  3  the out buffer has fewer than 48 bytes
- *  4  the session has already ended
- *  5  the device sent a packet whose length is not from 8 to 4096
- *  6  the device sent an unknown command
- *  7  the device sent XML: it runs a loader already
- *  8  the device sent a command that is not implemented
- *  9  the device sent a packet too short for its kind, or a mode or command that is none
- * 10  the device sent a packet that only a host sends
- * 11  the device sent a packet whose length is not that of its kind
- * 12  the device asked for an image that is not in the set
- * 13  the device asked for bytes past an image's end
- * 14  the device ended an image with an error status
- * 15  the device is ready for a command, and none was given
- * 16  the device announced a response longer than the reply buffer
- * 17  the device announced a memory table longer than 65,536 bytes or the table buffer
- * 18  a lent buffer is shorter than what the session fills, or a number of the session is above its limit
- * 19  a region's filename has no zero byte
- * 20  a region's filename is not UTF-8 before its first zero byte
- * 21  the 20 bytes of a region's filename are not UTF-8
- * 22  a region ends above 2^64
- * 23  the channel was closed before the end
- */
+/* how a session finished */
+#define WORGESLI_FINISHED_IMAGES_SENT 1u /* the device has its images and is done */
+#define WORGESLI_FINISHED_RESET 2u       /* the device resets itself */
+#define WORGESLI_FINISHED_DUMPED 3u      /* the memory is dumped: every selected region was closed, in table order */
+#define WORGESLI_FINISHED_REPLY 4u       /* a reply is there: the first session.count bytes of reply */
 
-/* A session. Numbers that its phase does not use are 0. Keep it as it is: other bits are refused. */
+/* why a step is refused: number, name (WORGESLI_REFUSED_...) and words (worgesli_refusal_text), the first that applies in the order of the requirement.
+ * 1, 2, 3, 4 and 18 are the caller's: session and buffers are as they were, nothing is taken, and once the bundle or buffer is right the step can be made.
+ * Each other ends the session: what was handed out of the open region is as it came, and not all of it. */
+#define WORGESLI_REFUSALS(X)                                                                                                 \
+    X(1, IMAGE_SET, "the image set is malformed: its length, a slot's range, or more than 64 slots")                         \
+    X(2, NAME_LIST, "the name list is malformed: its length, a name's range, an absent name, or more than 64 names")         \
+    X(3, OUT_BUFFER, "the out buffer has fewer than 48 bytes")                                                               \
+    X(4, ENDED, "the session has already ended")                                                                             \
+    X(5, PACKET_LENGTH, "the device sent a packet whose length is not from 8 to 4096")                                       \
+    X(6, UNKNOWN, "the device sent an unknown command")                                                                      \
+    X(7, XML, "the device sent XML: it runs a loader already")                                                               \
+    X(8, NOT_IMPLEMENTED, "the device sent a command that is not implemented")                                               \
+    X(9, BODY, "the device sent a packet too short for its kind, or a mode or command that is none")                         \
+    X(10, HOST_PACKET, "the device sent a packet that only a host sends")                                                    \
+    X(11, KIND_LENGTH, "the device sent a packet whose length is not that of its kind")                                      \
+    X(12, NO_IMAGE, "the device asked for an image that is not in the set")                                                  \
+    X(13, IMAGE_END, "the device asked for bytes past an image's end")                                                       \
+    X(14, IMAGE_STATUS, "the device ended an image with an error status")                                                    \
+    X(15, NO_COMMAND, "the device is ready for a command, and none was given")                                               \
+    X(16, RESPONSE_LENGTH, "the device announced a response longer than the reply buffer")                                   \
+    X(17, TABLE_LENGTH, "the device announced a memory table longer than 65,536 bytes or the table buffer")                  \
+    X(18, LIMIT, "a lent buffer is shorter than what the session fills, or a number of the session is above its limit")      \
+    X(19, FILENAME_END, "a region's filename has no zero byte")                                                              \
+    X(20, FILENAME, "a region's filename is not UTF-8 before its first zero byte")                                           \
+    X(21, FILENAME_BYTES, "the 20 bytes of a region's filename are not UTF-8")                                               \
+    X(22, REGION_END, "a region ends above 2^64")                                                                            \
+    X(23, CLOSED, "the channel was closed before the end")
+
+/* A session. Numbers that its phase does not use are 0. Keep it as it is: other bits are refused. A copy is a session of its own. */
 typedef struct worgesli_session {
     uint32_t mode;
     uint32_t command;
@@ -146,10 +181,17 @@ typedef struct worgesli_packet {
     uint32_t unk5;
 } worgesli_packet;
 
+/* The archive's WORGESLI_ABI; and the same under a name with the number in it. */
+#define WORGESLI_JOINED(a, b) a##b
+#define WORGESLI_JOIN(a, b) WORGESLI_JOINED(a, b)
+#define WORGESLI_ABI_SYMBOL WORGESLI_JOIN(worgesli_abi_, WORGESLI_ABI)
+uint32_t worgesli_abi(void);
+uint32_t WORGESLI_ABI_SYMBOL(void);
+
 /* A session just opened; no session (worgesli_is_session is false) where a number names no mode, command or backend. */
 worgesli_session worgesli_open(uint32_t mode, uint32_t command, uint32_t backend);
 
-/* One step. Lend it the same table and reply in every step of a session, and an out of at least 48 bytes. An empty delivery is no error. */
+/* One step. An empty delivery is no error. */
 worgesli_stepped worgesli_step(worgesli_session session,
                                const uint8_t *delivery, size_t delivery_len,
                                const uint8_t *set, size_t set_len,
@@ -158,29 +200,25 @@ worgesli_stepped worgesli_step(worgesli_session session,
                                uint8_t *reply, size_t reply_len,
                                uint8_t *out, size_t out_len);
 
-/* The same step of a session where it stands, and cheaper: worgesli_step_in_place(WORGESLI_PARTS(&session), delivery, ...). */
+/* The same step of a session where it stands, and cheaper: its numbers from mode to phase, those from reads to due, and its window (worgesli_step_at). */
 worgesli_placed worgesli_step_in_place(uint32_t head[4], uint64_t numbers[8], uint8_t window[48],
-                                     const uint8_t *delivery, size_t delivery_len,
-                                     const uint8_t *set, size_t set_len,
-                                     const uint8_t *names, size_t names_len,
-                                     uint8_t *table, size_t table_len,
-                                     uint8_t *reply, size_t reply_len,
-                                     uint8_t *out, size_t out_len);
+                                       const uint8_t *delivery, size_t delivery_len,
+                                       const uint8_t *set, size_t set_len,
+                                       const uint8_t *names, size_t names_len,
+                                       uint8_t *table, size_t table_len,
+                                       uint8_t *reply, size_t reply_len,
+                                       uint8_t *out, size_t out_len);
 
-/* Of a pointer to a session: its numbers from mode to phase, those from reads to due, and its window. */
-#define WORGESLI_PARTS(session) \
-    ((uint32_t *)(void *)(session)), ((uint64_t *)(void *)((char *)(session) + offsetof(worgesli_session, reads))), ((session)->window)
-
-/* The channel was closed. */
+/* The channel was closed: refused 23, and the session has ended; 4 where it had. */
 worgesli_stepped worgesli_closed(worgesli_session session);
 
 /* Whether the bits are a session. Where they are none, a step gives them back, refused 1, 2 or 3 where one of these applies, else 18; closed, 18. */
 bool worgesli_is_session(worgesli_session session);
 
-/* How many bytes to read for the next step: 0 where it needs none. */
+/* How many bytes to read for the next step: 0 where it needs none. Who reads no more takes no byte of what the device says after Sahara. */
 size_t worgesli_wanted(worgesli_session session);
 
-/* The same of a session where it stands, and cheaper: worgesli_wanted_in_place(WORGESLI_PARTS(&session)). */
+/* The same of a session where it stands, and cheaper (worgesli_wanted_at). */
 size_t worgesli_wanted_in_place(const uint32_t head[4], const uint64_t numbers[8], const uint8_t window[48]);
 
 /* 0: well formed; 1: an image set that is not; 2: a name list that is not. */
@@ -194,8 +232,7 @@ worgesli_range worgesli_image_range(const uint8_t *set, size_t set_len, uint64_t
 worgesli_entry worgesli_entry_at(const uint8_t *table, size_t table_len, size_t i);
 
 /* The first selected entry from `from` on and before `entries`; where there is none, `entries` (`from` if that is not below it). */
-size_t worgesli_next_selected(const uint8_t *table, size_t table_len, size_t entries,
-                              const uint8_t *names, size_t names_len, size_t from);
+size_t worgesli_next_selected(const uint8_t *table, size_t table_len, size_t entries, const uint8_t *names, size_t names_len, size_t from);
 
 /* Whether the bytes are UTF-8. */
 bool worgesli_utf8(const uint8_t *bytes, size_t bytes_len);
@@ -206,68 +243,138 @@ worgesli_packet worgesli_parse_packet(const uint8_t *bytes, size_t bytes_len);
 /* 0: out's first 8 bytes are a Reset packet; 3: out has fewer than 48 bytes, and is as it was. */
 uint32_t worgesli_reset(uint8_t *out, size_t out_len);
 
+/* ---- in line: nothing below is in the archive */
+
+#define WORGESLI_REFUSED(number, name, words) WORGESLI_REFUSED_##name = number,
+enum { WORGESLI_REFUSALS(WORGESLI_REFUSED) };
+#undef WORGESLI_REFUSED
+
+/* A refusal in words. */
+static inline const char *worgesli_refusal_text(uint64_t refusal)
+{
+    switch (refusal) {
+#define WORGESLI_REFUSED(number, name, words) \
+    case number:                              \
+        return words;
+        WORGESLI_REFUSALS(WORGESLI_REFUSED)
+#undef WORGESLI_REFUSED
+    default:
+        return "no such refusal";
+    }
+}
+
+/* What each step of a session is lent beside the delivery. */
+typedef struct worgesli_lent {
+    const uint8_t *set;
+    size_t set_len;
+    const uint8_t *names;
+    size_t names_len;
+    uint8_t *table;
+    size_t table_len;
+    uint8_t *reply;
+    size_t reply_len;
+    uint8_t *out;
+    size_t out_len;
+} worgesli_lent;
+
+/* One step of a session where it stands. */
+static inline worgesli_placed worgesli_step_at(worgesli_session *session, const worgesli_lent *lent, const uint8_t *delivery, size_t delivery_len)
+{
+    return worgesli_step_in_place((uint32_t *)(void *)session, (uint64_t *)(void *)((char *)session + offsetof(worgesli_session, reads)),
+                                  session->window, delivery, delivery_len, lent->set, lent->set_len, lent->names, lent->names_len,
+                                  lent->table, lent->table_len, lent->reply, lent->reply_len, lent->out, lent->out_len);
+}
+
+/* How many bytes to read for its next step. */
+static inline size_t worgesli_wanted_at(const worgesli_session *session)
+{
+    return worgesli_wanted_in_place((const uint32_t *)(const void *)session,
+                                    (const uint64_t *)(const void *)((const char *)session + offsetof(worgesli_session, reads)), session->window);
+}
+
+/* The channel was closed: gives the refusal. */
+static inline uint64_t worgesli_closed_at(worgesli_session *session)
+{
+    const worgesli_stepped closed = worgesli_closed(*session);
+    *session = closed.session;
+    return closed.first;
+}
+
+/* A slot of a bundle; absent where bytes is NULL and len 0. An empty one has any other pointer. */
+typedef struct worgesli_slot {
+    const void *bytes;
+    size_t len;
+} worgesli_slot;
+
+/* Writes a number in 4 bytes. */
+static inline void worgesli_put(uint8_t *to, uint64_t number)
+{
+    for (unsigned i = 0; i < 4; i++)
+        to[i] = (uint8_t)(number >> (8 * i));
+}
+
+/* Makes a bundle of n slots, one behind the other, and gives its length: written to `to` where it fits, and where it does not, or `to` is NULL, nothing is.
+ * 0: there is none, for more than 64 slots, data of 4 GiB or more, a slot that is NULL and has a length, or slots NULL where n is not 0. */
+static inline size_t worgesli_bundle(const worgesli_slot *slots, size_t n, uint8_t *to, size_t to_len)
+{
+    uint64_t data = 0;
+    if (n > WORGESLI_SLOTS || (n > 0 && slots == NULL))
+        return 0;
+    for (size_t i = 0; i < n; i++) {
+        if ((slots[i].bytes == NULL && slots[i].len > 0) || slots[i].len > 0xFFFFFFFFu - data)
+            return 0;
+        data += slots[i].len;
+    }
+    const size_t head = 8 + 8 * n, size = head + (size_t)data;
+    if (to == NULL || to_len < size)
+        return size;
+    worgesli_put(to, n);
+    worgesli_put(to + 4, data);
+    size_t at = 0;
+    for (size_t i = 0; i < n; i++) {
+        const worgesli_slot slot = slots[i];
+        /* an empty slot starts at 0, so that none has the mark of an absent one */
+        worgesli_put(to + 8 + 4 * i, slot.bytes == NULL ? 0xFFFFFFFFu : slot.len == 0 ? 0 : at);
+        worgesli_put(to + 8 + 4 * n + 4 * i, slot.len);
+        if (slot.len > 0)
+            memcpy(to + head + at, slot.bytes, slot.len);
+        at += slot.len;
+    }
+    return size;
+}
+
 #ifdef __cplusplus
 }
 #endif
+
+/* ---- what fails a compilation or a link: a layout that the archive was not compiled for, another interface */
 
 #ifdef __cplusplus
 #define WORGESLI_ASSERT(test, text) static_assert(test, text)
 #else
 #define WORGESLI_ASSERT(test, text) _Static_assert(test, text)
 #endif
-#define WORGESLI_AT(type, field, place) WORGESLI_ASSERT(offsetof(type, field) == (place), #type "." #field)
-#define WORGESLI_SIZE(type, size) WORGESLI_ASSERT(sizeof(type) == (size), #type)
+WORGESLI_ASSERT(sizeof(size_t) == 8, "size_t");
+WORGESLI_ASSERT(sizeof(worgesli_session) == 128, "worgesli_session");
+WORGESLI_ASSERT(offsetof(worgesli_session, reads) == 16, "worgesli_session.reads");
+WORGESLI_ASSERT(offsetof(worgesli_session, window) == 80, "worgesli_session.window");
+WORGESLI_ASSERT(sizeof(worgesli_stepped) == 160, "worgesli_stepped");
+WORGESLI_ASSERT(sizeof(worgesli_placed) == 40, "worgesli_placed");
+WORGESLI_ASSERT(sizeof(worgesli_entry) == 72, "worgesli_entry");
+WORGESLI_ASSERT(sizeof(worgesli_range) == 24, "worgesli_range");
+WORGESLI_ASSERT(sizeof(worgesli_packet) == 64, "worgesli_packet");
 
-WORGESLI_SIZE(worgesli_session, 128);
-WORGESLI_AT(worgesli_session, mode, 0);
-WORGESLI_AT(worgesli_session, command, 4);
-WORGESLI_AT(worgesli_session, backend, 8);
-WORGESLI_AT(worgesli_session, phase, 12);
-WORGESLI_AT(worgesli_session, reads, 16);
-WORGESLI_AT(worgesli_session, count, 24);
-WORGESLI_AT(worgesli_session, at, 32);
-WORGESLI_AT(worgesli_session, base, 40);
-WORGESLI_AT(worgesli_session, len, 48);
-WORGESLI_AT(worgesli_session, done, 56);
-WORGESLI_AT(worgesli_session, outstanding, 64);
-WORGESLI_AT(worgesli_session, due, 72);
-WORGESLI_AT(worgesli_session, window, 80);
-WORGESLI_SIZE(worgesli_stepped, 160);
-WORGESLI_AT(worgesli_stepped, session, 0);
-WORGESLI_AT(worgesli_stepped, taken, 128);
-WORGESLI_AT(worgesli_stepped, first, 136);
-WORGESLI_AT(worgesli_stepped, second, 144);
-WORGESLI_AT(worgesli_stepped, answer, 152);
-WORGESLI_SIZE(worgesli_placed, 40);
-WORGESLI_AT(worgesli_placed, taken, 0);
-WORGESLI_AT(worgesli_placed, first, 8);
-WORGESLI_AT(worgesli_placed, second, 16);
-WORGESLI_AT(worgesli_placed, answer, 24);
-WORGESLI_AT(worgesli_placed, waits, 32);
-WORGESLI_SIZE(worgesli_entry, 72);
-WORGESLI_AT(worgesli_entry, save_pref, 0);
-WORGESLI_AT(worgesli_entry, base, 8);
-WORGESLI_AT(worgesli_entry, len, 16);
-WORGESLI_AT(worgesli_entry, description, 24);
-WORGESLI_AT(worgesli_entry, filename, 44);
-WORGESLI_AT(worgesli_entry, there, 64);
-WORGESLI_SIZE(worgesli_range, 24);
-WORGESLI_AT(worgesli_range, start, 0);
-WORGESLI_AT(worgesli_range, len, 8);
-WORGESLI_AT(worgesli_range, refused, 16);
-WORGESLI_SIZE(worgesli_packet, 64);
-WORGESLI_AT(worgesli_packet, refused, 0);
-WORGESLI_AT(worgesli_packet, command, 4);
-WORGESLI_AT(worgesli_packet, len, 8);
-WORGESLI_AT(worgesli_packet, value, 12);
-WORGESLI_AT(worgesli_packet, first, 16);
-WORGESLI_AT(worgesli_packet, second, 24);
-WORGESLI_AT(worgesli_packet, third, 32);
-WORGESLI_AT(worgesli_packet, unk0, 40);
-WORGESLI_AT(worgesli_packet, unk1, 44);
-WORGESLI_AT(worgesli_packet, unk2, 48);
-WORGESLI_AT(worgesli_packet, unk3, 52);
-WORGESLI_AT(worgesli_packet, unk4, 56);
-WORGESLI_AT(worgesli_packet, unk5, 60);
+#ifndef WORGESLI_AT_RUN_TIME
+/* kept by the compiler and, where it can be said, by a linker that drops what nothing refers to */
+#ifdef __has_attribute
+#if __has_attribute(retain)
+#define WORGESLI_KEPT __attribute__((used, retain))
+#endif
+#endif
+#ifndef WORGESLI_KEPT
+#define WORGESLI_KEPT __attribute__((used))
+#endif
+static uint32_t (*const worgesli_linked)(void) WORGESLI_KEPT = WORGESLI_ABI_SYMBOL;
+#endif
 
 #endif

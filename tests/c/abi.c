@@ -1,5 +1,6 @@
 /* Calls every function of libworgesli.a from C. Standard input has the bytes of a device (crates/desk/stdin); standard output is held to what
- * crates/desk writes for them. layout.inc is made by tools/test-c from the Rattle source: sizes, places and types of every field, and each prototype.
+ * crates/desk writes for them. layout.inc is made by tools/test-c from the Rattle source: sizes, places and types of every field, each prototype, and the
+ * numbers of modes, commands, backends, phases and answers.
  */
 #include <stdio.h>
 #include <string.h>
@@ -15,6 +16,7 @@
 #define BYTES(type, field, count, place)                                               \
     _Static_assert(offsetof(type, field) == (place), "place of " #type "." #field);    \
     _Static_assert(_Generic(&((type *)0)->field, uint8_t(*)[count]: 1, default: 0), "type of " #type "." #field);
+#define NUMBER(name, number) _Static_assert(name == (number), #name);
 #include "layout.inc"
 
 static int failed;
@@ -65,12 +67,13 @@ static worgesli_stepped step(worgesli_session s, const uint8_t *delivery, size_t
     uint8_t t[sizeof table], y[sizeof reply], o[sizeof out];
     memcpy(t, table, sizeof t), memcpy(y, reply, sizeof y), memcpy(o, out, sizeof o);
     worgesli_session p = s;
-    worgesli_placed a = worgesli_step_in_place(WORGESLI_PARTS(&p), delivery, n, none, sizeof none, none, sizeof none, t, sizeof t, y, sizeof y, o, sizeof o);
+    const worgesli_lent own = {none, sizeof none, none, sizeof none, t, sizeof t, y, sizeof y, o, sizeof o};
+    worgesli_placed a = worgesli_step_at(&p, &own, delivery, n);
     worgesli_stepped r =
         worgesli_step(s, delivery, n, none, sizeof none, none, sizeof none, table, sizeof table, reply, sizeof reply, out, sizeof out);
     EXPECT(same(p, r.session) && a.taken == r.taken && a.first == r.first && a.second == r.second && a.answer == r.answer);
     EXPECT(memcmp(t, table, sizeof t) == 0 && memcmp(y, reply, sizeof y) == 0 && memcmp(o, out, sizeof o) == 0);
-    EXPECT(a.waits == (p.phase == WORGESLI_REGION ? worgesli_wanted(p) : 0));
+    EXPECT(a.waits == (p.phase == WORGESLI_PHASE_REGION ? worgesli_wanted(p) : 0));
     return r;
 }
 
@@ -78,13 +81,21 @@ static worgesli_stepped step(worgesli_session s, const uint8_t *delivery, size_t
 static size_t wanted(worgesli_session s)
 {
     size_t n = worgesli_wanted(s);
-    EXPECT(worgesli_wanted_in_place(WORGESLI_PARTS(&s)) == n);
+    EXPECT(worgesli_wanted_at(&s) == n);
     return n;
+}
+
+/* The channel's end, by value and in place. */
+static worgesli_stepped closed(worgesli_session s)
+{
+    worgesli_stepped r = worgesli_closed(s);
+    EXPECT(worgesli_closed_at(&s) == r.first && same(s, r.session));
+    return r;
 }
 
 static bool refused(worgesli_stepped r, uint64_t why)
 {
-    return r.answer == WORGESLI_REFUSED && r.first == why && r.second == 0 && r.taken == 0;
+    return r.answer == WORGESLI_ANSWER_REFUSED && r.first == why && r.second == 0 && r.taken == 0;
 }
 
 /* ---- the conversation of crates/desk, as its lines; and again, reading no more than is wanted */
@@ -93,7 +104,7 @@ static const char *const words[] = {"go", "send", "image", "open", "bytes", "emp
 
 static void converse(const uint8_t *bytes, size_t n)
 {
-    worgesli_session s = worgesli_open(WORGESLI_WAITING_FOR_IMAGE, WORGESLI_NO_COMMAND, WORGESLI_SERIAL);
+    worgesli_session s = worgesli_open(WORGESLI_MODE_WAITING_FOR_IMAGE, WORGESLI_COMMAND_NONE, WORGESLI_BACKEND_SERIAL);
     EXPECT(worgesli_is_session(s));
     size_t from = 0;
     for (int turns = 0; turns < 100; turns++) {
@@ -105,7 +116,7 @@ static void converse(const uint8_t *bytes, size_t n)
         from += r.taken;
         s = r.session;
         EXPECT(worgesli_is_session(s));
-        if (r.answer == WORGESLI_FINISHED || r.answer == WORGESLI_REFUSED)
+        if (r.answer == WORGESLI_ANSWER_FINISHED || r.answer == WORGESLI_ANSWER_REFUSED)
             return;
     }
     EXPECT(!"the conversation ends");
@@ -113,11 +124,11 @@ static void converse(const uint8_t *bytes, size_t n)
 
 static void sip(const uint8_t *bytes, size_t n)
 {
-    worgesli_session s = worgesli_open(WORGESLI_WAITING_FOR_IMAGE, WORGESLI_NO_COMMAND, WORGESLI_SERIAL);
+    worgesli_session s = worgesli_open(WORGESLI_MODE_WAITING_FOR_IMAGE, WORGESLI_COMMAND_NONE, WORGESLI_BACKEND_SERIAL);
     size_t from = 0;
-    uint32_t last = WORGESLI_GO;
+    uint32_t last = WORGESLI_ANSWER_GO;
     EXPECT(wanted(s) == 8);
-    while (last != WORGESLI_FINISHED && last != WORGESLI_REFUSED) {
+    while (last != WORGESLI_ANSWER_FINISHED && last != WORGESLI_ANSWER_REFUSED) {
         size_t k = wanted(s);
         EXPECT(0 < k && k <= n - from);
         if (failed)
@@ -128,9 +139,9 @@ static void sip(const uint8_t *bytes, size_t n)
         s = r.session;
         last = r.answer;
     }
-    EXPECT(last == WORGESLI_FINISHED && from == n && wanted(s) == 0);
+    EXPECT(last == WORGESLI_ANSWER_FINISHED && from == n && wanted(s) == 0);
     EXPECT(refused(step(s, NULL, 0), 4));
-    EXPECT(refused(worgesli_closed(s), 4));
+    EXPECT(refused(closed(s), 4));
 }
 
 /* ---- bits that are no session */
@@ -139,7 +150,8 @@ static void sip(const uint8_t *bytes, size_t n)
 static worgesli_stepped lent(worgesli_session s, const uint8_t *set, const uint8_t *names, size_t out_len)
 {
     worgesli_session p = s;
-    worgesli_placed a = worgesli_step_in_place(WORGESLI_PARTS(&p), none, sizeof none, set, 8, names, 8, table, sizeof table, reply, sizeof reply, out, out_len);
+    const worgesli_lent all = {set, 8, names, 8, table, sizeof table, reply, sizeof reply, out, out_len};
+    worgesli_placed a = worgesli_step_at(&p, &all, none, sizeof none);
     worgesli_stepped r = worgesli_step(s, none, sizeof none, set, 8, names, 8, table, sizeof table, reply, sizeof reply, out, out_len);
     EXPECT(same(p, r.session) && a.taken == r.taken && a.first == r.first && a.second == r.second && a.answer == r.answer);
     return r;
@@ -159,23 +171,23 @@ static void no_session(worgesli_session s)
         worgesli_stepped r = lent(s, rows[i].set, rows[i].names, rows[i].out_len);
         EXPECT(refused(r, rows[i].why) && same(r.session, s) && filled());
     }
-    worgesli_stepped r = worgesli_closed(s);
+    worgesli_stepped r = closed(s);
     EXPECT(refused(r, 18) && same(r.session, s));
     EXPECT(wanted(s) == 0);
 }
 
 static void no_sessions(void)
 {
-    const worgesli_session good = worgesli_open(WORGESLI_MEMORY_DEBUG, WORGESLI_READ_OEM_KEY_HASH, WORGESLI_USB);
+    const worgesli_session good = worgesli_open(WORGESLI_MODE_MEMORY_DEBUG, WORGESLI_COMMAND_READ_OEM_KEY_HASH, WORGESLI_BACKEND_USB);
     worgesli_session s;
     EXPECT(worgesli_is_session(good));
-    no_session(worgesli_open(1, WORGESLI_NO_COMMAND, 0));
+    no_session(worgesli_open(1, WORGESLI_COMMAND_NONE, 0));
     no_session(worgesli_open(0, 4, 0));
     no_session(worgesli_open(0, 0, 2));
     s = good, s.phase = 7, no_session(s);
     /* numbers that the phase does not use */
-    static const uint32_t one_count[] = {WORGESLI_PACKET, WORGESLI_SWITCHED, WORGESLI_ENDED};
-    static const uint32_t two_counts[] = {WORGESLI_RESPONSE, WORGESLI_TABLE, WORGESLI_BETWEEN};
+    static const uint32_t one_count[] = {WORGESLI_PHASE_PACKET, WORGESLI_PHASE_SWITCHED, WORGESLI_PHASE_ENDED};
+    static const uint32_t two_counts[] = {WORGESLI_PHASE_RESPONSE, WORGESLI_PHASE_TABLE, WORGESLI_PHASE_BETWEEN};
     for (int i = 0; i < 3; i++) {
         s = good, s.phase = one_count[i], s.count = 3, EXPECT(worgesli_is_session(s));
         s.at = 1, no_session(s);
@@ -186,25 +198,109 @@ static void no_sessions(void)
         s.done = 0, s.outstanding = 1, no_session(s);
         s.outstanding = 0, s.due = 1, no_session(s);
     }
-    s = good, s.phase = WORGESLI_REGION, s.count = 64, s.base = 1, s.len = 2, s.done = 1, s.outstanding = 1, s.due = 1;
+    s = good, s.phase = WORGESLI_PHASE_REGION, s.count = 64, s.base = 1, s.len = 2, s.done = 1, s.outstanding = 1, s.due = 1;
     EXPECT(worgesli_is_session(s));
     EXPECT(wanted(s) == 0);
     s.due = 0, EXPECT(wanted(s) == 1);
     /* it waits for the one byte, and says so; with it, for none */
     fill();
     worgesli_stepped r = step(s, NULL, 0);
-    EXPECT(r.answer == WORGESLI_GO && same(r.session, s));
+    EXPECT(r.answer == WORGESLI_ANSWER_GO && same(r.session, s));
     r = step(s, none, 1);
-    EXPECT(r.answer == WORGESLI_BYTES && r.first == 1 && r.session.done == 2 && wanted(r.session) == 0);
+    EXPECT(r.answer == WORGESLI_ANSWER_BYTES && r.first == 1 && r.session.done == 2 && wanted(r.session) == 0);
     s.due = 2, no_session(s);
     memset(&s, 0xff, sizeof s), no_session(s);
+}
+
+/* ---- every finish, and the limits that the header names */
+
+static worgesli_session in_phase(uint32_t phase)
+{
+    worgesli_session s = worgesli_open(WORGESLI_MODE_MEMORY_DEBUG, WORGESLI_COMMAND_NONE, WORGESLI_BACKEND_SERIAL);
+    s.phase = phase;
+    return s;
+}
+
+static bool finished(worgesli_stepped r, uint64_t how)
+{
+    return r.answer == WORGESLI_ANSWER_FINISHED && r.first == how && r.session.phase == WORGESLI_PHASE_ENDED;
+}
+
+static void ends(void)
+{
+    static const uint8_t done[] = {6, 0, 0, 0, 12, 0, 0, 0, 1, 0, 0, 0}, reset[] = {8, 0, 0, 0, 8, 0, 0, 0};
+    EXPECT(finished(step(in_phase(WORGESLI_PHASE_PACKET), done, sizeof done), WORGESLI_FINISHED_IMAGES_SENT));
+    EXPECT(finished(step(in_phase(WORGESLI_PHASE_PACKET), reset, sizeof reset), WORGESLI_FINISHED_RESET));
+    EXPECT(finished(step(in_phase(WORGESLI_PHASE_BETWEEN), NULL, 0), WORGESLI_FINISHED_DUMPED));
+    worgesli_session s = in_phase(WORGESLI_PHASE_SWITCHED);
+    s.count = 5;
+    worgesli_stepped r = step(s, NULL, 0);
+    EXPECT(finished(r, WORGESLI_FINISHED_REPLY) && r.session.count == 5);
+    EXPECT(refused(closed(in_phase(WORGESLI_PHASE_TABLE)), WORGESLI_REFUSED_CLOSED));
+}
+
+/* ---- each thing that is lent is used for what it is */
+
+static void lends(void)
+{
+    static const uint8_t set[] = {1, 0, 0, 0, 3, 0, 0, 0, 0, 0, 0, 0, 3, 0, 0, 0, 'a', 'b', 'c'};
+    static const uint8_t names[] = {1, 0, 0, 0, 1, 0, 0, 0, 0, 0, 0, 0, 1, 0, 0, 0, 'n'};
+    static const uint8_t read[] = {3, 0, 0, 0, 20, 0, 0, 0, 13, 0, 0, 0, 1, 0, 0, 0, 2, 0, 0, 0};
+    const worgesli_lent all = {set, sizeof set, names, sizeof names, table, 64, reply, 20, out, sizeof out};
+    uint8_t bytes[64];
+    for (size_t i = 0; i < sizeof bytes; i++)
+        bytes[i] = (uint8_t)(0x80 + i);
+    fill();
+    worgesli_session s = in_phase(WORGESLI_PHASE_PACKET);
+    worgesli_placed r = worgesli_step_at(&s, &all, read, sizeof read);
+    EXPECT(r.answer == WORGESLI_ANSWER_IMAGE && r.first == 17 && r.second == 2 && r.taken == sizeof read && filled());
+    s = in_phase(WORGESLI_PHASE_RESPONSE), s.count = 20;
+    r = worgesli_step_at(&s, &all, bytes, 19);
+    EXPECT(r.answer == WORGESLI_ANSWER_GO && r.taken == 19 && memcmp(reply, bytes, 19) == 0 && reply[19] == 0x5a && table[0] == 0x5a);
+    s = in_phase(WORGESLI_PHASE_TABLE), s.count = 64;
+    r = worgesli_step_at(&s, &all, bytes, 64);
+    EXPECT(r.answer == WORGESLI_ANSWER_GO && r.taken == 64 && memcmp(table, bytes, 64) == 0 && reply[0] == 0x80 && out[0] == 0x5a);
+    EXPECT(s.phase == WORGESLI_PHASE_BETWEEN && s.count == 64);
+    memset(table, 0, 64), memcpy(table + 44, "N.BIN", 5);
+    r = worgesli_step_at(&s, &all, NULL, 0);
+    EXPECT(r.answer == WORGESLI_ANSWER_OPEN && r.first == 0 && s.phase == WORGESLI_PHASE_REGION);
+    table[44] = 'm', s = in_phase(WORGESLI_PHASE_BETWEEN), s.count = 64;
+    r = worgesli_step_at(&s, &all, NULL, 0);
+    EXPECT(r.answer == WORGESLI_ANSWER_FINISHED && r.first == WORGESLI_FINISHED_DUMPED);
+}
+
+/* MemDebug64 of so long a table, and a table buffer of so many bytes. */
+static uint64_t announced(uint64_t len, size_t room)
+{
+    static uint8_t large[WORGESLI_TABLE_LEN + 1];
+    uint8_t debug[24] = {0x10, 0, 0, 0, 24};
+    memcpy(debug + 16, &len, 8);
+    EXPECT(room <= sizeof large);
+    worgesli_stepped r = worgesli_step(in_phase(WORGESLI_PHASE_PACKET), debug, sizeof debug, none, 8, none, 8, large, room, NULL, 0, out, WORGESLI_OUT_LEN);
+    EXPECT(r.answer == WORGESLI_ANSWER_SEND || r.answer == WORGESLI_ANSWER_REFUSED);
+    return r.answer == WORGESLI_ANSWER_SEND ? 0 : r.first;
+}
+
+static void limits(void)
+{
+    EXPECT(announced(WORGESLI_TABLE_LEN, WORGESLI_TABLE_LEN) == 0 && announced(0, 0) == 0);
+    EXPECT(announced(WORGESLI_TABLE_LEN + 1, WORGESLI_TABLE_LEN + 1) == WORGESLI_REFUSED_TABLE_LENGTH);
+    EXPECT(announced(65, 64) == WORGESLI_REFUSED_TABLE_LENGTH);
+    EXPECT(worgesli_reset(out, WORGESLI_OUT_LEN) == 0 && worgesli_reset(out, WORGESLI_OUT_LEN - 1) == WORGESLI_REFUSED_OUT_BUFFER);
+    static uint8_t slots[8 + 8 * (WORGESLI_SLOTS + 1)];
+    slots[0] = WORGESLI_SLOTS;
+    EXPECT(worgesli_check_images(slots, sizeof slots - 8) == 0);
+    slots[0] = WORGESLI_SLOTS + 1;
+    EXPECT(worgesli_check_images(slots, sizeof slots) == WORGESLI_REFUSED_IMAGE_SET);
+    EXPECT(worgesli_check_names(slots, sizeof slots) == WORGESLI_REFUSED_NAME_LIST);
+    EXPECT(worgesli_abi() == WORGESLI_ABI && WORGESLI_ABI_SYMBOL() == WORGESLI_ABI);
 }
 
 /* ---- NULL with length 0, for every slice */
 
 static void nulls(void)
 {
-    const worgesli_session s = worgesli_open(WORGESLI_WAITING_FOR_IMAGE, WORGESLI_NO_COMMAND, WORGESLI_SERIAL);
+    const worgesli_session s = worgesli_open(WORGESLI_MODE_WAITING_FOR_IMAGE, WORGESLI_COMMAND_NONE, WORGESLI_BACKEND_SERIAL);
     worgesli_stepped r = worgesli_step(s, NULL, 0, NULL, 0, NULL, 0, NULL, 0, NULL, 0, NULL, 0);
     EXPECT(refused(r, 1) && same(r.session, s));
     r = worgesli_step(s, NULL, 0, none, 8, NULL, 0, NULL, 0, NULL, 0, NULL, 0);
@@ -212,12 +308,14 @@ static void nulls(void)
     r = worgesli_step(s, NULL, 0, none, 8, none, 8, NULL, 0, NULL, 0, NULL, 0);
     EXPECT(refused(r, 3) && same(r.session, s));
     r = worgesli_step(s, NULL, 0, none, 8, none, 8, NULL, 0, NULL, 0, out, sizeof out);
-    EXPECT(r.answer == WORGESLI_GO && r.taken == 0 && same(r.session, s));
+    EXPECT(r.answer == WORGESLI_ANSWER_GO && r.taken == 0 && same(r.session, s));
     worgesli_session p = s;
-    worgesli_placed a = worgesli_step_in_place(WORGESLI_PARTS(&p), NULL, 0, NULL, 0, NULL, 0, NULL, 0, NULL, 0, NULL, 0);
-    EXPECT(a.answer == WORGESLI_REFUSED && a.first == 1 && a.second == 0 && a.taken == 0 && same(p, s));
-    a = worgesli_step_in_place(WORGESLI_PARTS(&p), NULL, 0, none, 8, none, 8, NULL, 0, NULL, 0, out, sizeof out);
-    EXPECT(a.answer == WORGESLI_GO && a.first == 0 && a.second == 0 && a.taken == 0 && same(p, s));
+    worgesli_lent all = {NULL, 0, NULL, 0, NULL, 0, NULL, 0, NULL, 0};
+    worgesli_placed a = worgesli_step_at(&p, &all, NULL, 0);
+    EXPECT(a.answer == WORGESLI_ANSWER_REFUSED && a.first == 1 && a.second == 0 && a.taken == 0 && same(p, s));
+    all.set = all.names = none, all.set_len = all.names_len = sizeof none, all.out = out, all.out_len = sizeof out;
+    a = worgesli_step_at(&p, &all, NULL, 0);
+    EXPECT(a.answer == WORGESLI_ANSWER_GO && a.first == 0 && a.second == 0 && a.taken == 0 && same(p, s));
     EXPECT(worgesli_check_images(NULL, 0) == 1 && worgesli_check_names(NULL, 0) == 2);
     EXPECT(worgesli_image_range(NULL, 0, 0, 0, 0).refused == 1);
     EXPECT(worgesli_entry_at(NULL, 0, 0).there == 0);
@@ -292,6 +390,9 @@ int main(void)
     if (!failed)
         leaves(bytes);
     no_sessions();
+    ends();
+    lends();
+    limits();
     nulls();
     return failed;
 }

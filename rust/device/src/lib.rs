@@ -14,7 +14,7 @@ pub use memory::{padded, Memory, Region};
 pub use packets::*;
 pub use pty::{serve_pty, Pty};
 pub use rng::{mix, Rng};
-pub use socket::{serve, Socket};
+pub use socket::{serve, serve_until, Socket};
 pub use tape::Tape;
 pub use wire::{Division, Faults, Wire};
 

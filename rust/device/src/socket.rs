@@ -45,25 +45,34 @@ impl Write for Socket {
 
 /// Plays the device until the host goes. It writes its bytes in pieces at random and rests now and then, so that the host finds them
 /// divided. Gives the device back, and the number of pieces.
-pub fn serve(mut device: Device, mut stream: UnixStream, seed: u64) -> io::Result<(Device, u64)> {
+pub fn serve<C: Read + Write>(device: Device, channel: C, seed: u64) -> io::Result<(Device, u64)> {
+    serve_until(device, channel, seed, u64::MAX)
+}
+
+/// As [`serve`], of a device that is gone after so many bytes.
+pub fn serve_until<C: Read + Write>(mut device: Device, mut channel: C, seed: u64, mut left: u64) -> io::Result<(Device, u64)> {
     let mut rng = Rng::new(seed);
     let mut buf = [0; 4096];
     let mut pieces = 0;
     loop {
         while device.queued() > 0 {
-            let room = rng.piece(buf.len());
+            if left == 0 {
+                return Ok((device, pieces));
+            }
+            let room = rng.piece(buf.len()).min(left.try_into().unwrap_or(usize::MAX));
             let n = device.say(&mut buf[..room]);
-            match stream.write_all(&buf[..n]) {
+            match channel.write_all(&buf[..n]) {
                 Err(e) if e.kind() == ErrorKind::BrokenPipe => return Ok((device, pieces)),
                 written => written?,
             }
+            left -= n as u64;
             pieces += 1;
             if rng.chance(256) {
                 std::thread::sleep(Duration::from_micros(rng.below(200)));
             }
         }
         let room = rng.piece(buf.len());
-        match stream.read(&mut buf[..room])? {
+        match channel.read(&mut buf[..room])? {
             0 => return Ok((device, pieces)),
             n => device.hear(&buf[..n]),
         }

@@ -4,13 +4,18 @@ use std::fmt;
 /// What the host asks of the device.
 #[derive(Clone, Copy, Debug, PartialEq, Eq)]
 #[repr(u32)]
+#[non_exhaustive]
 pub enum Mode {
+    /// load images
     WaitingForImage = 0,
+    /// dump memory
     MemoryDebug = 2,
+    /// answer a command
     Command = 3,
 }
 
 impl Mode {
+    /// The mode of a number, if it has one.
     pub fn from_number(n: u32) -> Option<Mode> {
         [Mode::WaitingForImage, Mode::MemoryDebug, Mode::Command].into_iter().find(|m| *m as u32 == n)
     }
@@ -20,13 +25,18 @@ impl Mode {
 #[derive(Clone, Copy, Debug, PartialEq, Eq)]
 #[repr(u32)]
 pub enum Command {
+    /// nothing
     Nop = 0,
+    /// the serial number
     ReadSerialNum = 1,
+    /// the hardware's ID
     ReadHwId = 2,
+    /// the hash of the maker's key
     ReadOemKeyHash = 3,
 }
 
 impl Command {
+    /// The command of a number, if it has one.
     pub fn from_number(n: u32) -> Option<Command> {
         [Command::Nop, Command::ReadSerialNum, Command::ReadHwId, Command::ReadOemKeyHash].into_iter().find(|c| *c as u32 == n)
     }
@@ -36,25 +46,36 @@ impl Command {
 #[derive(Clone, Copy, Debug, PartialEq, Eq)]
 #[repr(u32)]
 pub enum Backend {
+    /// a serial line, or what the system shows as one: no empty reads
     Serial = 0,
+    /// bulk endpoints
     Usb = 1,
 }
 
 /// Where a session stands.
 #[derive(Clone, Copy, Debug, PartialEq, Eq)]
 #[repr(u32)]
+#[non_exhaustive]
 pub enum Phase {
+    /// a packet is being heard
     Packet = 0,
+    /// the response to a command comes
     Response = 1,
+    /// it is there, and SwitchMode was sent
     Switched = 2,
+    /// the memory table comes
     Table = 3,
+    /// between two regions
     Between = 4,
+    /// a region comes
     Region = 5,
+    /// finished or refused
     Ended = 6,
 }
 
 /// What the caller is to do after a step.
 #[derive(Clone, Copy, Debug, PartialEq, Eq)]
+#[non_exhaustive]
 pub enum Answer {
     /// nothing
     Go,
@@ -62,7 +83,9 @@ pub enum Answer {
     Send(usize),
     /// send this part of the image set's bytes
     Image {
+        /// its place in the set's bytes
         start: usize,
+        /// its length
         len: usize,
     },
     /// a region begins: its place in the table
@@ -75,14 +98,17 @@ pub enum Answer {
     Close(usize),
     /// the end: 1 images sent, 2 reset, 3 memory dumped, 4 a reply is there; and the memory reads
     Finished {
+        /// from 1 to 4
         how: u8,
+        /// since opening
         reads: u64,
     },
+    /// nothing, or the end: see the number
     Refused(Refusal),
 }
 
-/// A numbered refusal.
-#[derive(Clone, Copy, Debug, PartialEq, Eq)]
+/// A numbered refusal. `Debug` says what `Display` says.
+#[derive(Clone, Copy, PartialEq, Eq)]
 pub struct Refusal(u8);
 
 impl Refusal {
@@ -140,22 +166,24 @@ impl fmt::Display for Refusal {
     }
 }
 
+impl fmt::Debug for Refusal {
+    fn fmt(&self, f: &mut fmt::Formatter<'_>) -> fmt::Result {
+        fmt::Display::fmt(self, f)
+    }
+}
+
 impl std::error::Error for Refusal {}
 
 #[cfg(test)]
 mod tests {
     use super::Refusal;
+    use crate::raw::interface::tool;
 
     /// The words are those of the C header.
     #[test]
     fn words_of_the_header() {
-        let header = concat!(env!("CARGO_MANIFEST_DIR"), "/../../include/worgesli.h");
-        let header = std::fs::read_to_string(header).unwrap();
-        let block = header.split("/* refusals").nth(1).unwrap().split("*/").next().unwrap();
-        let said: Vec<String> = block.lines().skip(1).map(|l| l.trim_start_matches(" *").trim().to_string()).collect();
-        let ours: Vec<String> = (1..=23).map(|n| format!("{n}  {}", Refusal(n).words())).collect();
-        assert_eq!(said[..23], ours);
-        assert!(said[23..].iter().all(String::is_empty));
+        let ours: Vec<String> = (1..=23).map(|n| format!("{n}\t{}", Refusal(n).words())).collect();
+        assert_eq!(tool("refusals").lines().collect::<Vec<_>>(), ours);
         assert_eq!((Refusal(0).words(), Refusal(24).words()), ("no such refusal", "no such refusal"));
     }
 }

@@ -1,12 +1,21 @@
 //! The archive's C interface, as `include/worgesli.h` has it: the structs, the functions, and for each function that takes a
-//! pointer a safe one beside it. This is the only file of the crate with unsafe code.
+//! pointer a safe one beside it. The header says what each is. Unsafe code is here and in the calls of the C library that a tty needs.
 //!
 //! A slice crosses as a pointer and a length. The functions are proved total: any bits of a struct and any bytes are answered. They
 //! read and write within the lent slices only, keep no pointer and call nothing back. So a Rust slice is all they need, and a
 //! pointer that does not stand for one (NULL with a length above 0, a stale one) is the only way to break them.
-#![allow(unsafe_code)]
+#![allow(unsafe_code, missing_docs)]
+
+#[cfg(test)]
+pub(crate) mod interface;
 
 use std::mem::{offset_of, size_of};
+
+/// The number of this interface. A program of this crate links only with an archive of the same number.
+pub const ABI: u32 = 1;
+
+#[used]
+static LINKED: extern "C" fn() -> u32 = worgesli_abi_1;
 
 /// No command.
 pub const NO_COMMAND: u32 = 0xffff_ffff;
@@ -100,46 +109,23 @@ pub struct Packet {
     pub unk5: u32,
 }
 
-// The layout that the archive was compiled for (x86-64, System V).
+// The layout that the archive was compiled for (x86-64, System V). Fields and functions are held to the Rattle source by the tests.
 const _: () = {
     assert!(size_of::<usize>() == 8);
     assert!(size_of::<Session>() == 128);
-    assert!(offset_of!(Session, phase) == 12);
     assert!(offset_of!(Session, reads) == 16);
-    assert!(offset_of!(Session, count) == 24);
-    assert!(offset_of!(Session, at) == 32);
-    assert!(offset_of!(Session, base) == 40);
-    assert!(offset_of!(Session, len) == 48);
-    assert!(offset_of!(Session, done) == 56);
-    assert!(offset_of!(Session, outstanding) == 64);
-    assert!(offset_of!(Session, due) == 72);
     assert!(offset_of!(Session, window) == 80);
     assert!(size_of::<Stepped>() == 160);
-    assert!(offset_of!(Stepped, taken) == 128);
-    assert!(offset_of!(Stepped, first) == 136);
-    assert!(offset_of!(Stepped, second) == 144);
-    assert!(offset_of!(Stepped, answer) == 152);
     assert!(size_of::<Placed>() == 40);
-    assert!(offset_of!(Placed, first) == 8);
-    assert!(offset_of!(Placed, second) == 16);
-    assert!(offset_of!(Placed, answer) == 24);
-    assert!(offset_of!(Placed, waits) == 32);
     assert!(size_of::<Entry>() == 72);
-    assert!(offset_of!(Entry, description) == 24);
-    assert!(offset_of!(Entry, filename) == 44);
-    assert!(offset_of!(Entry, there) == 64);
     assert!(size_of::<Range>() == 24);
-    assert!(offset_of!(Range, refused) == 16);
     assert!(size_of::<Packet>() == 64);
-    assert!(offset_of!(Packet, value) == 12);
-    assert!(offset_of!(Packet, first) == 16);
-    assert!(offset_of!(Packet, third) == 32);
-    assert!(offset_of!(Packet, unk0) == 40);
-    assert!(offset_of!(Packet, unk5) == 60);
 };
 
-// Unsafe: that these declarations agree with the archive is on us. The assertions above and the tests watch over it.
+// Unsafe: that these declarations agree with the archive is on us. The tests hold them to its source.
 unsafe extern "C" {
+    pub safe fn worgesli_abi() -> u32;
+    pub safe fn worgesli_abi_1() -> u32;
     pub safe fn worgesli_open(mode: u32, command: u32, backend: u32) -> Session;
     pub fn worgesli_step(
         s: Session,

@@ -2,7 +2,7 @@
 use crate::guard::{Guarded, Side};
 use crate::world::world;
 use device::Rng;
-use worgesli::{entry_at, next_selected, parse_packet, reset, utf8, Body, Command, ImageSet, Mode, NameList, Packet, SLOTS};
+use worgesli::{entry_at, next_selected, parse_packet, reset, utf8, Body, Command, ImageSet, Mode, NameList, SLOTS};
 
 #[test]
 fn packets() {
@@ -27,7 +27,8 @@ fn packets() {
     ];
     for (bytes, body) in cases {
         let len = bytes.len();
-        assert_eq!(parse_packet(&bytes), Ok(Packet { len: len as u32, body }));
+        let packet = parse_packet(&bytes).unwrap();
+        assert_eq!((packet.len, packet.body), (len as u32, body));
         for side in [Side::Behind, Side::Before] {
             // bytes behind the body do not matter; one byte fewer is 9
             let longer = Guarded::new(&[&bytes[..], &[0xff; 9]].concat(), side);

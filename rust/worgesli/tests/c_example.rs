@@ -1,0 +1,735 @@
+//! examples/fetch.c, compiled as README.md says, fetches from the simulated device; and again under the sanitizers, with system
+//! calls that fail as they may (tests/c/faults.c). The header's bundles beside the crate's.
+use device::{done_resp, execute_resp, hello, read_data, reset_resp, serve_until, Device, Memory, Region, Rng, Turn};
+use std::collections::BTreeMap;
+use std::ffi::c_int;
+use std::fs::{self, File, OpenOptions};
+use std::io::{self, Read, Write};
+use std::os::fd::{AsRawFd, OwnedFd};
+use std::os::unix::fs::{OpenOptionsExt, PermissionsExt};
+use std::os::unix::net::UnixStream;
+use std::path::{Path, PathBuf};
+use std::process::{Child, Command, Output, Stdio};
+use std::sync::atomic::{AtomicU32, Ordering};
+use std::sync::OnceLock;
+use std::thread;
+use std::time::{Duration, Instant};
+use worgesli::ImageSet;
+
+// ---- the programs
+
+fn root() -> PathBuf {
+    Path::new(env!("CARGO_MANIFEST_DIR")).join("../..").canonicalize().unwrap()
+}
+
+/// Says it although the test passes.
+fn not_run(what: &str) {
+    let _ = writeln!(io::stderr(), "c_example: {what}");
+}
+
+/// A shell's command, in the repository.
+fn shell(line: &str) -> Output {
+    let line = match std::env::var("WORGESLI_ARCHIVE_DIR") {
+        Ok(folder) => line.replace("target/staticlib", &folder),
+        Err(_) => line.into(),
+    };
+    Command::new("sh").args(["-c", &line]).current_dir(root()).output().unwrap()
+}
+
+fn compiled(line: &str) {
+    let made = shell(line);
+    assert!(made.status.success(), "{line}\n{}", String::from_utf8_lossy(&made.stderr));
+    assert!(made.stderr.is_empty(), "{}", String::from_utf8_lossy(&made.stderr));
+}
+
+/// The line of README.md that compiles the example, and where it puts it.
+fn line_of_the_readme() -> (String, PathBuf) {
+    let readme = fs::read_to_string(root().join("README.md")).unwrap();
+    let lines: Vec<&str> =
+        readme.lines().map(str::trim).filter(|l| l.starts_with("cc ") && l.contains("examples/fetch.c")).collect();
+    assert_eq!(lines.len(), 1, "README.md has one line that compiles examples/fetch.c");
+    let to = lines[0].rsplit_once(" -o ").unwrap().1;
+    (lines[0].into(), root().join(to))
+}
+
+#[derive(Clone, Copy, Debug, PartialEq)]
+enum Build {
+    /// by README's own line
+    Plain,
+    /// with the sanitizers and the faults
+    Checked,
+}
+
+const SANITIZED: &str = "-g -fsanitize=address,undefined -fno-sanitize-recover=all";
+
+/// The example; none where it cannot be compiled for want of a tool.
+fn example(build: Build) -> Option<&'static Path> {
+    static PLAIN: OnceLock<Option<PathBuf>> = OnceLock::new();
+    static CHECKED: OnceLock<Option<PathBuf>> = OnceLock::new();
+    let plain = PLAIN.get_or_init(|| {
+        if !shell("command -v cc").status.success() {
+            not_run("no C compiler is on this machine: examples/fetch.c was NOT compiled and NOT run");
+            return None;
+        }
+        let (line, to) = line_of_the_readme();
+        compiled(&line);
+        Some(to)
+    });
+    let checked = CHECKED.get_or_init(|| {
+        let plain = plain.as_ref()?;
+        if !shell(&format!(
+            "echo 'int main(void) {{ return 0; }}' | cc {SANITIZED} -x c - -o {0}.tried && {0}.tried",
+            plain.display()
+        ))
+        .status
+        .success()
+        {
+            not_run("the C compiler has no sanitizers: examples/fetch.c was NOT run with them and with faults");
+            return None;
+        }
+        let wrapped: String =
+            ["read", "write", "poll", "fsync", "openat", "renameat", "fstatat"].map(|c| format!(" -Wl,--wrap={c}")).concat();
+        let (line, to) = line_of_the_readme();
+        let checked = to.with_file_name("fetch-checked");
+        let line = line.replace("examples/fetch.c", &format!("-U_FORTIFY_SOURCE {SANITIZED} examples/fetch.c tests/c/faults.c"));
+        let line = line.rsplit_once(" -o ").unwrap().0;
+        compiled(&format!("{line}{wrapped} -o {}", checked.display()));
+        Some(checked)
+    });
+    match build {
+        Build::Plain => plain.as_deref(),
+        Build::Checked => checked.as_deref(),
+    }
+}
+
+fn builds() -> Vec<Build> {
+    [Build::Plain, Build::Checked].into_iter().filter(|b| example(*b).is_some()).collect()
+}
+
+// ---- a run
+
+struct Temporary(PathBuf);
+
+impl Temporary {
+    fn new() -> Temporary {
+        static COUNT: AtomicU32 = AtomicU32::new(0);
+        let n = COUNT.fetch_add(1, Ordering::Relaxed);
+        let path = std::env::temp_dir().join(format!("worgesli-c-{}-{n}", std::process::id()));
+        fs::create_dir(&path).unwrap();
+        Temporary(path)
+    }
+
+    /// Where a fetch goes; it is not there yet.
+    fn dump(&self) -> PathBuf {
+        self.0.join("dump")
+    }
+
+    fn files(&self) -> BTreeMap<String, Vec<u8>> {
+        let Ok(list) = fs::read_dir(self.dump()) else { return BTreeMap::new() };
+        list.map(|e| e.unwrap()).map(|e| (e.file_name().into_string().unwrap(), fs::read(e.path()).unwrap())).collect()
+    }
+}
+
+impl Drop for Temporary {
+    fn drop(&mut self) {
+        let _ = fs::remove_dir_all(&self.0);
+    }
+}
+
+/// How the example is called.
+#[derive(Clone, Debug)]
+struct Call {
+    build: Build,
+    usb: bool,
+    names: Vec<String>,
+    /// of tests/c/faults.c: FAULTS, FAIL
+    faults: Option<u64>,
+    fail: Option<String>,
+    /// blocks of 512 bytes that a file may have
+    most: Option<u32>,
+}
+
+impl Call {
+    fn new(build: Build) -> Call {
+        Call { build, usb: false, names: Vec::new(), faults: None, fail: None, most: None }
+    }
+
+    fn spawn(&self, port: &str, stdin: Stdio, folder: &Path) -> Child {
+        let program = example(self.build).unwrap();
+        let mut call = match self.most {
+            None => Command::new(program),
+            Some(n) => {
+                let mut shell = Command::new("sh");
+                shell.args(["-c", &format!("ulimit -f {n} && exec \"$0\" \"$@\"")]).arg(program);
+                shell
+            }
+        };
+        call.args(["-t", "1000"]).args(self.usb.then_some("-u")).arg(port).arg(folder).args(&self.names);
+        call.envs(self.faults.map(|seed| ("FAULTS", seed.to_string()))).envs(self.fail.clone().map(|f| ("FAIL", f)));
+        started(call.stdin(stdin))
+    }
+
+    /// Fetches over a socket from a device that is gone after so many bytes.
+    fn run(&self, device: Device, seed: u64, left: u64, folder: &Path) -> (Said, Option<Device>) {
+        let (near, far) = UnixStream::pair().unwrap();
+        let device = thread::spawn(move || serve_until(device, far, seed, left).ok().map(|(device, _)| device));
+        let child = self.spawn("0", OwnedFd::from(near).into(), folder);
+        (Said::of(child), device.join().unwrap())
+    }
+}
+
+fn started(call: &mut Command) -> Child {
+    call.stdout(Stdio::piped()).stderr(Stdio::piped()).spawn().unwrap()
+}
+
+/// What it said. Nothing that a device made up is in there raw.
+#[derive(Debug)]
+struct Said {
+    status: Option<i32>,
+    out: String,
+    error: String,
+}
+
+impl Said {
+    fn by(call: &mut Command) -> Said {
+        Said::of(started(call))
+    }
+
+    fn of(child: Child) -> Said {
+        let said = child.wait_with_output().unwrap();
+        for text in [&said.stdout, &said.stderr] {
+            let shown = |b: &u8| *b == b'\n' || (b' '..=b'~').contains(b);
+            assert!(text.iter().all(shown), "{:?}", String::from_utf8_lossy(text));
+        }
+        let text = |t: Vec<u8>| String::from_utf8(t).unwrap();
+        Said { status: said.status.code(), out: text(said.stdout), error: text(said.stderr) }
+    }
+
+    /// It ended with an error that says this, and called nothing a success.
+    fn failed(&self, why: &str) {
+        assert_eq!(self.status, Some(1), "{self:?}");
+        assert!(self.error.contains(why), "{why}: {self:?}");
+        assert!(!self.out.contains("every"), "{self:?}");
+    }
+}
+
+// ---- what is fetched
+
+/// Filenames of a device and what becomes of them.
+const NAMES: &[(&str, &str)] = &[
+    ("TAKE.BIN", "TAKE.BIN"),
+    ("OCIMEM.BIN", "OCIMEM.BIN"),
+    ("A/B.BIN", "A%2FB.BIN"),
+    ("/etc/passwd", "%2Fetc%2Fpasswd"),
+    ("..", "%2E."),
+    (".", "%2E"),
+    ("../x", "%2E.%2Fx"),
+    (".profile", "%2Eprofile"),
+    ("", "%"),
+    ("%", "%25"),
+    ("-rf", "%2Drf"),
+    ("a-b_c", "a-b_c"),
+    ("\u{1b}[2J\u{7}", "%1B%5B2J%07"),
+    ("two\nlines", "two%0Alines"),
+    (" a b ", "%20a b%20"),
+    (" ", "%20"),
+    ("TAKE.BIN~2", "TAKE.BIN%7E2"),
+    ("X.PART", "X%2EPART"),
+    (".part", "%2Epart"),
+    ("a.part.Part", "a.part%2EPart"),
+    ("apart", "apart"),
+    ("a\\b:c*d?\"e", "a%5Cb%3Ac%2Ad%3F%22e"),
+    ("\u{e9}\u{1f600}", "%C3%A9%F0%9F%98%80"),
+    (
+        "\u{1}\u{2}\u{3}\u{4}\u{5}\u{6}\u{7}\u{8}\u{9}\u{a}\u{b}\u{c}\u{d}\u{e}\u{f}\u{10}\u{11}\u{12}\u{13}",
+        "%01%02%03%04%05%06%07%08%09%0A%0B%0C%0D%0E%0F%10%11%12%13",
+    ),
+    ("ABCDEFGHIJKLMNOPQRS", "ABCDEFGHIJKLMNOPQRS"),
+];
+
+/// Regions with names from the list, some more than once, and the name of each one's file.
+fn regions(rng: &mut Rng) -> (Vec<Region>, Vec<String>) {
+    let mut used = BTreeMap::new();
+    let count = 2 + rng.below(12);
+    let one = |i: u64| {
+        let (filename, plain) = NAMES[rng.below(NAMES.len() as u64) as usize];
+        let len = match rng.below(4) {
+            0 => [0, 1, 4095, 4096, 4097, 8192][rng.below(6) as usize],
+            1 => 512 * rng.below(40),
+            _ => rng.below(30_000),
+        };
+        let copies = used.entry(plain).and_modify(|n| *n += 1).or_insert(1);
+        let file = if *copies == 1 { plain.into() } else { format!("{plain}~{copies}") };
+        (Region::new(filename, i << 32 | rng.below(100), len), file)
+    };
+    (1..=count).map(one).unzip()
+}
+
+fn memory(seed: u64, regions: &[Region]) -> Memory {
+    Memory::new(seed, 0x4000_0000, regions)
+}
+
+fn content(memory: &Memory, region: &Region) -> Vec<u8> {
+    memory.bytes(region.base, region.len as usize)
+}
+
+/// The files are these regions, whole, and of the one after them perhaps a part.
+fn held(files: &BTreeMap<String, Vec<u8>>, memory: &Memory, regions: &[Region], names: &[String]) -> usize {
+    let whole = regions.iter().zip(names).take_while(|(_, name)| files.contains_key(*name)).count();
+    for (region, name) in regions.iter().zip(names).take(whole) {
+        assert!(files[name] == content(memory, region), "{name}");
+    }
+    let part = names.get(whole).map(|name| format!("{name}.part"));
+    for (name, bytes) in files.iter().filter(|(name, _)| !names[..whole].contains(name)) {
+        assert_eq!(Some(name), part.as_ref(), "{:?}", files.keys());
+        assert!(content(memory, &regions[whole]).starts_with(bytes), "{name}");
+    }
+    whole
+}
+
+#[test]
+fn fetches() {
+    for build in builds() {
+        for seed in 0..40 {
+            let mut rng = Rng::new(seed);
+            let (regions, names) = regions(&mut rng);
+            let memory = memory(seed, &regions);
+            let temporary = Temporary::new();
+            let faults = (build == Build::Checked && seed >= 5).then_some(seed);
+            let call = Call { usb: seed % 2 == 0, faults, ..Call::new(build) };
+            let (said, device) = call.run(Device::dump(memory.clone()), seed, u64::MAX, &temporary.dump());
+            assert_eq!(said.status, Some(0), "{call:?} {said:?}");
+            let files = temporary.files();
+            assert_eq!(held(&files, &memory, &regions, &names), regions.len(), "{:?}", files.keys());
+            assert_eq!(files.len(), regions.len());
+            let device = device.unwrap();
+            let chunks: u64 = regions.iter().map(|r| r.len.div_ceil(4096)).sum();
+            assert_eq!((device.wrong(), device.reads()), (None, 1 + chunks));
+            assert!(said.out.ends_with(&format!(
+                "every selected region is whole: {}, with {} memory reads\n",
+                regions.len(),
+                1 + chunks
+            )));
+            for (name, region) in names.iter().zip(&regions) {
+                assert!(said.out.contains(&format!("{name}: {} bytes\n", region.len)));
+            }
+            let mode = |p: &Path| fs::metadata(p).unwrap().permissions().mode() & 0o777;
+            assert_eq!(mode(&temporary.dump()), 0o700);
+            assert!(names.iter().all(|n| mode(&temporary.dump().join(n)) == 0o600));
+        }
+    }
+}
+
+#[test]
+fn every_filename() {
+    let regions: Vec<Region> =
+        NAMES.iter().enumerate().map(|(i, (name, _))| Region::new(name, (i as u64) << 32, 100 + i as u64)).collect();
+    let names: Vec<String> = NAMES.iter().map(|(_, plain)| plain.to_string()).collect();
+    for build in builds() {
+        let memory = memory(1, &regions);
+        let temporary = Temporary::new();
+        let (said, _) = Call::new(build).run(Device::dump(memory.clone()), 1, u64::MAX, &temporary.dump());
+        assert_eq!(said.status, Some(0), "{said:?}");
+        assert_eq!(held(&temporary.files(), &memory, &regions, &names), regions.len());
+    }
+}
+
+#[test]
+fn selected_by_name() {
+    let regions =
+        [Region::new("TAKE.BIN", 0, 10), Region::new("OCIMEM.BIN", 100, 20).unpreferred(), Region::new("OTHER.BIN", 200, 30)];
+    let memory = memory(2, &regions);
+    for build in builds() {
+        for (names, files) in [(vec!["ocimem", "Take"], vec!["OCIMEM.BIN", "TAKE.BIN"]), (vec![], vec!["OTHER.BIN", "TAKE.BIN"])]
+        {
+            let temporary = Temporary::new();
+            let call = Call { names: names.iter().map(|n| n.to_string()).collect(), ..Call::new(build) };
+            let (said, _) = call.run(Device::dump(memory.clone()), 1, u64::MAX, &temporary.dump());
+            assert_eq!(
+                (said.status, temporary.files().into_keys().collect::<Vec<_>>()),
+                (Some(0), files.iter().map(|f| f.to_string()).collect())
+            );
+        }
+        // none of this name: no success
+        let temporary = Temporary::new();
+        let call = Call { names: vec!["-".into(), "TAKE.BIN".into(), String::new()], ..Call::new(build) };
+        let (said, _) = call.run(Device::dump(memory.clone()), 1, u64::MAX, &temporary.dump());
+        said.failed("the device has no region that is asked for");
+        assert!(temporary.files().is_empty());
+    }
+}
+
+/// Names that are taken, by whole regions, parts and whatever else: nothing that was there changes.
+#[test]
+fn nothing_is_overwritten() {
+    for build in builds() {
+        let regions = [Region::new("TAKE.BIN", 0, 5000), Region::new("TAKE.BIN", 9000, 6000), Region::new("X", 20_000, 1)];
+        let memory = memory(3, &regions);
+        let temporary = Temporary::new();
+        fs::create_dir(temporary.dump()).unwrap();
+        let there = [("TAKE.BIN", "before"), ("TAKE.BIN~2.part", "a part"), ("X.part", "")];
+        for (name, text) in there {
+            fs::write(temporary.dump().join(name), text).unwrap();
+        }
+        std::os::unix::fs::symlink("nowhere", temporary.dump().join("TAKE.BIN~4")).unwrap();
+        let (said, _) = Call::new(build).run(Device::dump(memory.clone()), 1, u64::MAX, &temporary.dump());
+        assert_eq!(said.status, Some(0), "{said:?}");
+        fs::remove_file(temporary.dump().join("TAKE.BIN~4")).unwrap();
+        let mut files = temporary.files();
+        for (name, text) in there {
+            assert_eq!(files.remove(name).unwrap(), text.as_bytes());
+        }
+        let names = ["TAKE.BIN~3", "TAKE.BIN~5", "X~2"].map(String::from);
+        assert_eq!(held(&files, &memory, &regions, &names), 3);
+    }
+}
+
+/// Two at a time into one folder.
+#[test]
+fn side_by_side() {
+    if builds().is_empty() {
+        return;
+    }
+    let regions = [Region::new("TAKE.BIN", 0, 3000), Region::new("TAKE.BIN", 9000, 100), Region::new("X", 20_000, 1)];
+    let memory = memory(4, &regions);
+    let temporary = Temporary::new();
+    thread::scope(|scope| {
+        for seed in 0..8 {
+            let (memory, folder) = (memory.clone(), temporary.dump());
+            scope.spawn(move || {
+                let (said, _) = Call::new(Build::Plain).run(Device::dump(memory), seed, u64::MAX, &folder);
+                assert_eq!(said.status, Some(0), "{said:?}");
+            });
+        }
+    });
+    let files = temporary.files();
+    let with = |region: &Region| files.values().filter(|bytes| **bytes == content(&memory, region)).count();
+    assert_eq!((files.len(), regions.each_ref().map(with)), (24, [8; 3]), "{:?}", files.keys());
+}
+
+// ---- what goes wrong
+
+/// A device that dies: what is whole is whole, and of the open region its beginning is there, as a part.
+#[test]
+fn the_device_dies() {
+    for build in builds() {
+        for seed in 0..if build == Build::Plain { 6 } else { 60 } {
+            let mut rng = Rng::new(seed);
+            let (regions, names) = regions(&mut rng);
+            let memory = memory(seed, &regions);
+            let bytes: u64 = 72 + 64 * regions.len() as u64 + regions.iter().map(|r| r.len).sum::<u64>();
+            let left = rng.below(bytes);
+            let temporary = Temporary::new();
+            let call = Call { usb: seed % 2 == 0, faults: (build == Build::Checked).then_some(seed), ..Call::new(build) };
+            let (said, _) = call.run(Device::dump(memory.clone()), seed, left, &temporary.dump());
+            // it may be gone before it was asked
+            let reason = ["the channel was closed", "writing to the port", "reading from the port"]
+                .iter()
+                .find(|r| said.error.contains(**r));
+            said.failed(reason.unwrap_or_else(|| panic!("{said:?}")));
+            let files = temporary.files();
+            let whole = held(&files, &memory, &regions, &names);
+            assert!(said.error.contains(&format!("whole regions: {whole}\n")), "{said:?}");
+            let parts = files.keys().find(|f| f.ends_with(".part"));
+            // every byte that came is kept
+            let kept: usize = files.values().map(Vec::len).sum();
+            assert_eq!(kept as u64, left.saturating_sub(72 + 64 * regions.len() as u64), "{said:?}");
+            if let Some(part) = parts {
+                let len = regions[whole].len;
+                assert!(
+                    said.error.contains(&format!("NOT whole: {part} has {} of {len} bytes\n", files[part].len())),
+                    "{said:?}"
+                );
+            }
+        }
+    }
+}
+
+/// A disk that is full: a limit on the length of files.
+#[test]
+fn a_full_disk() {
+    if builds().is_empty() {
+        return;
+    }
+    let regions = [Region::new("SMALL", 0, 2048), Region::new("LARGE", 1 << 20, 20_000), Region::new("LAST", 1 << 21, 10)];
+    let memory = memory(5, &regions);
+    let temporary = Temporary::new();
+    let call = Call { most: Some(8), ..Call::new(Build::Plain) };
+    let (said, _) = call.run(Device::dump(memory.clone()), 1, u64::MAX, &temporary.dump());
+    said.failed("File too large");
+    said.failed("NOT whole: LARGE.part has 4096 of 20000 bytes\n");
+    assert_eq!(held(&temporary.files(), &memory, &regions, &["SMALL", "LARGE", "LAST"].map(String::from)), 1);
+    assert_eq!(temporary.files()["LARGE.part"].len(), 4096);
+}
+
+/// Each call that can fail fails, and each after it.
+#[test]
+fn calls_that_fail() {
+    let Some(_) = example(Build::Checked) else { return };
+    let regions = [Region::new("A", 0, 5000), Region::new("B", 1 << 20, 5000), Region::new("C", 1 << 21, 0)];
+    let names = ["A", "B", "C"].map(String::from);
+    let memory = memory(6, &regions);
+    // how many such calls a fetch makes: for the new folder, then for each region's file and its name; writes as the bytes come
+    for (name, error, says, calls) in [
+        ("write", 28, "No space left on device", None),
+        ("write", 5, "Input/output error", None),
+        ("fsync", 5, "Input/output error", Some(1 + 2 * 3)),
+        ("openat", 13, "Permission denied", Some(1 + 3)),
+        ("fstatat", 5, "Input/output error", Some(2 * 3)),
+        ("renameat", 13, "Permission denied", Some(3)),
+    ] {
+        let mut failed = 0;
+        loop {
+            let n = failed + 1;
+            let temporary = Temporary::new();
+            let call = Call { fail: Some(format!("{name}:{n}:{error}")), ..Call::new(Build::Checked) };
+            let (said, _) = call.run(Device::dump(memory.clone()), n, u64::MAX, &temporary.dump());
+            let files = temporary.files();
+            let whole = held(&files, &memory, &regions, &names);
+            if said.status == Some(0) {
+                assert_eq!(whole, 3);
+                break;
+            }
+            said.failed(says);
+            failed += 1;
+            // it has its name when its bytes are on the disk, and is called whole when the name is too
+            let (named, called) =
+                if name == "fsync" { ((n - 1) / 2, (n - 1).saturating_sub(1) / 2) } else { (whole as u64, whole as u64) };
+            assert_eq!(whole as u64, named, "{call:?} {said:?}");
+            assert!(said.error.contains(&format!("whole regions: {called}\n")), "{call:?} {said:?}");
+        }
+        assert!(calls.map_or(failed > 3, |calls| failed == calls), "{name}: {failed}");
+    }
+}
+
+/// A device that is gone when it is answered.
+#[test]
+fn gone_when_it_is_answered() {
+    for build in builds() {
+        let temporary = Temporary::new();
+        let (near, mut far) = UnixStream::pair().unwrap();
+        far.write_all(&hello(2)).unwrap();
+        drop(far);
+        let said = Said::of(Call::new(build).spawn("0", OwnedFd::from(near).into(), &temporary.dump()));
+        said.failed("writing to the port: Broken pipe");
+    }
+}
+
+/// Devices that offer no memory, and those that are refused.
+#[test]
+fn other_devices() {
+    let say = |packets: Vec<Vec<u8>>| {
+        Device::new(
+            Memory::empty(),
+            [vec![Turn::Say(hello(2)), Turn::Hear(48)], packets.into_iter().map(Turn::Say).collect()].concat(),
+        )
+    };
+    let table = |table: Vec<u8>| Device::dump(Memory::with_table(1, 0, table));
+    let wide = Region { filename: *b"12345678901234567890", ..Region::new("", 0, 1) };
+    for build in builds() {
+        let cases = [
+            (say(vec![done_resp(1)]), "it is done"),
+            (say(vec![reset_resp()]), "it resets"),
+            (say(vec![execute_resp(1, 0)]), "it answered a command that was not given"),
+            (say(vec![execute_resp(1, 1)]), "the device announced a response longer than the reply buffer"),
+            (say(vec![read_data(0, 0, 0)]), "the device asked for an image that is not in the set"),
+            (say(vec![b"<?xml version".to_vec()]), "length is not from 8 to 4096"),
+            (say(vec![device::mem_debug64(0, 65_537)]), "the device announced a memory table longer than 65,536 bytes"),
+            (table(vec![]), "the device has no region that is asked for"),
+            (table(wide.bytes().to_vec()), "a region's filename has no zero byte"),
+            (table(Region::new([0xff], 0, 1).bytes().to_vec()), "a region's filename is not UTF-8"),
+            (table(Region::new("X", u64::MAX, 2).bytes().to_vec()), "a region ends above 2^64"),
+        ];
+        for (device, why) in cases {
+            let temporary = Temporary::new();
+            let (said, _) = Call::new(build).run(device, 1, u64::MAX, &temporary.dump());
+            said.failed(why);
+            // at most a part, of a region that was opened and then refused
+            assert!(temporary.files().iter().all(|(name, bytes)| name == "X.part" && bytes.is_empty()));
+        }
+    }
+}
+
+/// A device that says nothing is waited for, and not for ever.
+#[test]
+fn silence() {
+    for build in builds() {
+        let temporary = Temporary::new();
+        let (near, _far) = UnixStream::pair().unwrap();
+        let start = Instant::now();
+        let said = Said::by(
+            Command::new(example(build).unwrap()).args(["-t", "40", "0"]).arg(temporary.dump()).stdin(OwnedFd::from(near)),
+        );
+        said.failed("the channel was closed before the end");
+        assert!((200..5000).contains(&start.elapsed().as_millis()), "{:?}", start.elapsed());
+    }
+}
+
+#[test]
+fn wrong_calls() {
+    for build in builds() {
+        let temporary = Temporary::new();
+        let names = vec!["n"; 65];
+        let usage =
+            [&["0"][..], &[], &["-x", "0", "dump"], &["-t", "0", "0", "dump"], &["-t"], &[&["0", "dump"], &names[..]].concat()];
+        for args in usage {
+            let call = Command::new(example(build).unwrap()).args(args).current_dir(&temporary.0).output().unwrap();
+            assert_eq!(call.status.code(), Some(2), "{args:?}");
+            assert!(String::from_utf8(call.stderr).unwrap().contains("usage:"));
+        }
+        File::create(temporary.0.join("file")).unwrap();
+        for (port, folder, why) in
+            [("no-port", "dump", "No such file"), ("99", "dump", "Bad file descriptor"), ("0", "file", "Not a directory")]
+        {
+            let mut call = Command::new(example(build).unwrap());
+            Said::by(call.args([port, folder]).current_dir(&temporary.0).stdin(Stdio::null())).failed(why);
+        }
+        assert!(temporary.files().is_empty());
+    }
+}
+
+// ---- a terminal
+
+extern "C" {
+    fn grantpt(fd: c_int) -> c_int;
+    fn unlockpt(fd: c_int) -> c_int;
+    fn ptsname_r(fd: c_int, name: *mut u8, len: usize) -> c_int;
+    fn tcgetattr(fd: c_int, to: *mut u32) -> c_int;
+}
+
+/// A terminal's far end. Where its near end is closed, a read says so by an error.
+struct Terminal(File);
+
+impl Terminal {
+    fn new() -> Option<(Terminal, String)> {
+        let file = OpenOptions::new().read(true).write(true).custom_flags(0o400).open("/dev/ptmx").ok()?;
+        let mut name = [0u8; 64];
+        // Safe: an open descriptor, and a buffer of that length.
+        let made = unsafe {
+            (grantpt(file.as_raw_fd()), unlockpt(file.as_raw_fd()), ptsname_r(file.as_raw_fd(), name.as_mut_ptr(), 64))
+        };
+        assert_eq!(made, (0, 0, 0));
+        let len = name.iter().position(|b| *b == 0).unwrap();
+        Some((Terminal(file), String::from_utf8(name[..len].to_vec()).unwrap()))
+    }
+
+    /// Whether the host took the line discipline away: before, the device's bytes would be changed and echoed.
+    fn raw(&self) -> bool {
+        let mut t = [0u32; 64];
+        // Safe: more bytes than a termios has; its fourth word is c_lflag, of which 2 is ICANON and 8 ECHO.
+        assert_eq!(unsafe { tcgetattr(self.0.as_raw_fd(), t.as_mut_ptr()) }, 0);
+        t[3] & 10 == 0
+    }
+}
+
+impl Read for Terminal {
+    fn read(&mut self, to: &mut [u8]) -> io::Result<usize> {
+        match self.0.read(to) {
+            Err(e) if e.raw_os_error() == Some(5) => Ok(0),
+            n => n,
+        }
+    }
+}
+
+impl Write for Terminal {
+    fn write(&mut self, bytes: &[u8]) -> io::Result<usize> {
+        self.0.write(bytes)
+    }
+    fn flush(&mut self) -> io::Result<()> {
+        Ok(())
+    }
+}
+
+#[test]
+fn over_a_terminal() {
+    for build in builds() {
+        for seed in 0..6 {
+            let (regions, names) = regions(&mut Rng::new(seed));
+            let memory = memory(seed, &regions);
+            let temporary = Temporary::new();
+            let Some((far, path)) = Terminal::new() else {
+                return not_run("there are no pseudo-terminals here: examples/fetch.c was NOT run over one");
+            };
+            // it stays open here too, or its far end has none to talk to before the program opens it
+            let near = OpenOptions::new().read(true).write(true).custom_flags(0o400).open(&path).unwrap();
+            assert!(!far.raw());
+            let child = Call { faults: (build == Build::Checked).then_some(seed), ..Call::new(build) }.spawn(
+                &path,
+                Stdio::null(),
+                &temporary.dump(),
+            );
+            let since = Instant::now();
+            while !far.raw() {
+                assert!(since.elapsed() < Duration::from_secs(20), "the terminal is not made raw");
+                thread::sleep(Duration::from_millis(1));
+            }
+            let device = Device::dump(memory.clone());
+            let device = thread::spawn(move || serve_until(device, far, seed, u64::MAX).unwrap().0);
+            let said = Said::of(child);
+            drop(near);
+            assert_eq!(said.status, Some(0), "{said:?}");
+            assert_eq!(device.join().unwrap().wrong(), None);
+            assert_eq!(held(&temporary.files(), &memory, &regions, &names), regions.len());
+        }
+    }
+}
+
+/// A descriptor of another number than 0.
+#[test]
+fn an_inherited_descriptor() {
+    if builds().is_empty() {
+        return;
+    }
+    let regions = [Region::new("TAKE.BIN", 0, 5000)];
+    let memory = memory(7, &regions);
+    let temporary = Temporary::new();
+    let (near, far) = UnixStream::pair().unwrap();
+    let device = Device::dump(memory.clone());
+    let device = thread::spawn(move || device::serve(device, far, 1).unwrap());
+    let line = "exec \"$0\" 7 \"$1\" 7<&0 </dev/null";
+    let program = example(Build::Plain).unwrap();
+    let said = Said::by(Command::new("sh").args(["-c", line]).arg(program).arg(temporary.dump()).stdin(OwnedFd::from(near)));
+    assert_eq!(said.status, Some(0), "{said:?}");
+    device.join().unwrap();
+    assert_eq!(held(&temporary.files(), &memory, &regions, &["TAKE.BIN".into()]), 1);
+}
+
+// ---- bundles
+
+/// The header's bundles are those of this crate, byte for byte.
+#[test]
+fn bundles() {
+    let Some(plain) = example(Build::Plain) else { return };
+    let program = plain.with_file_name("bundles");
+    let sanitized = if example(Build::Checked).is_some() { SANITIZED } else { "" };
+    compiled(&format!(
+        "cc -std=c11 -O1 -Wall -Wextra -Werror {sanitized} -Iinclude tests/c/bundles.c target/staticlib/libworgesli.a -o {}",
+        program.display()
+    ));
+    let mut rng = Rng::new(8);
+    let (mut input, mut expected) = (Vec::new(), Vec::new());
+    for n in (0..=64).chain([1, 1, 1, 2, 2, 2, 3, 3, 3, 64, 64, 64]) {
+        let slots: Vec<Option<Vec<u8>>> = (0..n)
+            .map(|_| {
+                let len = [0, 1, rng.below(20), rng.below(5000)][rng.below(4) as usize];
+                let mut bytes = vec![0; len as usize];
+                rng.fill(&mut bytes);
+                (rng.below(4) > 0).then_some(bytes)
+            })
+            .collect();
+        input.extend((n as u32).to_le_bytes());
+        for slot in &slots {
+            input.extend(slot.as_ref().map_or(u32::MAX, |s| s.len() as u32).to_le_bytes());
+            input.extend(slot.iter().flatten());
+        }
+        let set = ImageSet::new(&slots).unwrap();
+        expected.extend((set.bytes().len() as u32).to_le_bytes());
+        expected.extend(set.bytes());
+    }
+    let mut child = Command::new(program).stdin(Stdio::piped()).stdout(Stdio::piped()).spawn().unwrap();
+    let mut stdin = child.stdin.take().unwrap();
+    let writer = thread::spawn(move || stdin.write_all(&input));
+    let said = child.wait_with_output().unwrap();
+    writer.join().unwrap().unwrap();
+    assert!(said.status.success() && said.stdout == expected);
+}

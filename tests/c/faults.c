@@ -1,0 +1,142 @@
+/* System calls of examples/fetch.c that do what they may, linked around it with --wrap. FAULTS is a seed: reads and writes move a part of what they could, are
+ * interrupted, find a port that is not ready or, reading, 0 bytes; but no more than 3 times in a row nothing comes. FAIL is CALL:N:ERRNO: the N-th call of
+ * that name, and each after it, fails. A write to the port is no `write` there.
+ */
+#define _POSIX_C_SOURCE 200809L
+#include <errno.h>
+#include <fcntl.h>
+#include <poll.h>
+#include <stdarg.h>
+#include <stdbool.h>
+#include <stdint.h>
+#include <stdio.h>
+#include <stdlib.h>
+#include <string.h>
+#include <sys/stat.h>
+#include <unistd.h>
+
+ssize_t __real_read(int, void *, size_t);
+ssize_t __real_write(int, const void *, size_t);
+int __real_poll(struct pollfd *, nfds_t, int);
+int __real_fsync(int);
+int __real_openat(int, const char *, int, ...);
+int __real_renameat(int, const char *, int, const char *);
+int __real_fstatat(int, const char *, struct stat *, int);
+
+ssize_t __wrap_read(int, void *, size_t);
+ssize_t __wrap_write(int, const void *, size_t);
+int __wrap_poll(struct pollfd *, nfds_t, int);
+int __wrap_fsync(int);
+int __wrap_openat(int, const char *, int, ...);
+int __wrap_renameat(int, const char *, int, const char *);
+int __wrap_fstatat(int, const char *, struct stat *, int);
+
+static int silent;
+
+/* From 0 to n - 1, by the seed; n - 1 without one. */
+static size_t below(size_t n)
+{
+    static uint64_t x;
+    const char *seed = getenv("FAULTS");
+    if (seed == NULL)
+        return n - 1;
+    if (x == 0)
+        x = 0x9e3779b97f4a7c15u ^ strtoull(seed, NULL, 10);
+    x ^= x << 13, x ^= x >> 7, x ^= x << 17;
+    return (size_t)((x >> 11) % n);
+}
+
+static int with(int error)
+{
+    errno = error;
+    return -1;
+}
+
+/* Whether this call is one that fails. */
+static bool fails(const char *call)
+{
+    static long calls;
+    const char *fail = getenv("FAIL");
+    if (fail == NULL || strncmp(fail, call, strlen(call)) != 0 || fail[strlen(call)] != ':')
+        return false;
+    char *rest;
+    const long n = strtol(fail + strlen(call) + 1, &rest, 10);
+    errno = atoi(rest + 1);
+    return ++calls >= n;
+}
+
+/* Whether nothing comes this time. */
+static bool silence(void)
+{
+    if (silent >= 3 || below(6) != 0)
+        return false;
+    silent++;
+    return true;
+}
+
+/* A part of n bytes. */
+static size_t part(size_t n)
+{
+    return below(2) == 0 && n > 0 ? 1 + below(n) : n;
+}
+
+ssize_t __wrap_read(int fd, void *to, size_t n)
+{
+    if (below(8) == 0)
+        return with(EINTR);
+    if (silence())
+        return below(2) == 0 ? 0 : with(EAGAIN);
+    const ssize_t k = __real_read(fd, to, part(n));
+    silent = k > 0 ? 0 : silent;
+    return k;
+}
+
+ssize_t __wrap_write(int fd, const void *from, size_t n)
+{
+    struct stat s;
+    const bool file = fstat(fd, &s) == 0 && S_ISREG(s.st_mode);
+    if (file && fails("write"))
+        return -1;
+    if (below(8) == 0)
+        return with(EINTR);
+    if (!file && silence())
+        return below(2) == 0 ? 0 : with(EAGAIN);
+    const ssize_t k = __real_write(fd, from, part(n));
+    silent = k > 0 && !file ? 0 : silent;
+    return k;
+}
+
+int __wrap_poll(struct pollfd *p, nfds_t n, int ms)
+{
+    if (n == 0 && getenv("FAULTS") != NULL)
+        return 0;
+    if (n > 0 && below(8) == 0)
+        return with(EINTR);
+    return n > 0 && silence() ? 0 : __real_poll(p, n, ms);
+}
+
+int __wrap_fsync(int fd)
+{
+    if (fails("fsync"))
+        return -1;
+    return below(4) == 0 ? with(EINTR) : __real_fsync(fd);
+}
+
+int __wrap_openat(int folder, const char *name, int flags, ...)
+{
+    va_list list;
+    va_start(list, flags);
+    const unsigned mode = flags & O_CREAT ? va_arg(list, unsigned) : 0;
+    va_end(list);
+    return fails("openat") ? -1 : __real_openat(folder, name, flags, mode);
+}
+
+int __wrap_renameat(int from, const char *name, int to, const char *new_name)
+{
+    return fails("renameat") ? -1 : __real_renameat(from, name, to, new_name);
+}
+
+int __wrap_fstatat(int folder, const char *name, struct stat *to, int flags)
+{
+    return fails("fstatat") ? -1 : __real_fstatat(folder, name, to, flags);
+}

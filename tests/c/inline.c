@@ -1,0 +1,141 @@
+/* What include/worgesli.h has in line: the refusals' words and the bundles. Compiled and run as C and as C++. */
+#include <stdio.h>
+#include <stdlib.h>
+
+#include "worgesli.h"
+
+static int failed;
+
+static void expect(bool so, int line, const char *what)
+{
+    if (so)
+        return;
+    fprintf(stderr, "inline.c:%d: not so: %s\n", line, what);
+    failed = 1;
+}
+
+#define EXPECT(test) expect((test), __LINE__, #test)
+
+static worgesli_slot slot(const void *bytes, size_t len)
+{
+    worgesli_slot s;
+    s.bytes = bytes;
+    s.len = len;
+    return s;
+}
+
+/* ---- refusals */
+
+static void words(void)
+{
+    const char *none = worgesli_refusal_text(0);
+    EXPECT(strcmp(none, "no such refusal") == 0);
+    for (uint64_t n = 1; n <= 23; n++) {
+        EXPECT(strcmp(worgesli_refusal_text(n), none) != 0);
+        for (uint64_t m = 1; m < n; m++)
+            EXPECT(strcmp(worgesli_refusal_text(n), worgesli_refusal_text(m)) != 0);
+    }
+    EXPECT(strcmp(worgesli_refusal_text(24), none) == 0 && strcmp(worgesli_refusal_text(UINT64_MAX), none) == 0);
+    EXPECT(strcmp(worgesli_refusal_text((UINT64_C(1) << 32) + 1), none) == 0);
+    EXPECT(strcmp(worgesli_refusal_text(WORGESLI_REFUSED_CLOSED), "the channel was closed before the end") == 0);
+    EXPECT(WORGESLI_REFUSED_IMAGE_SET == 1 && WORGESLI_REFUSED_LIMIT == 18 && WORGESLI_REFUSED_CLOSED == 23);
+}
+
+/* ---- bundles */
+
+static void known(void)
+{
+    static const uint8_t empty[8] = {0}, one[] = {1, 0, 0, 0, 3, 0, 0, 0, 0, 0, 0, 0, 3, 0, 0, 0, 'a', 'b', 'c'};
+    static const uint8_t four[] = {4, 0, 0, 0, 5, 0, 0, 0, 0, 0, 0, 0, 255, 255, 255, 255, 0, 0, 0, 0, 2, 0, 0, 0,
+                                   2, 0, 0, 0, 0, 0, 0, 0, 0, 0, 0, 0, 3, 0, 0, 0, 'a', 'b', 'c', 'd', 'e'};
+    uint8_t to[64];
+    EXPECT(worgesli_bundle(NULL, 0, to, sizeof to) == 8 && memcmp(to, empty, 8) == 0);
+    EXPECT(worgesli_check_images(to, 8) == 0 && worgesli_check_names(to, 8) == 0);
+    worgesli_slot slots[4] = {slot("abc", 3), slot(NULL, 0), slot("", 0), slot("cde", 3)};
+    EXPECT(worgesli_bundle(slots, 1, to, sizeof to) == sizeof one && memcmp(to, one, sizeof one) == 0);
+    EXPECT(worgesli_check_names(to, sizeof one) == 0);
+    slots[0].len = 2;
+    EXPECT(worgesli_bundle(slots, 4, to, sizeof to) == sizeof four && memcmp(to, four, sizeof four) == 0);
+    EXPECT(worgesli_check_images(to, sizeof four) == 0 && worgesli_check_names(to, sizeof four) == WORGESLI_REFUSED_NAME_LIST);
+    EXPECT(worgesli_image_range(to, sizeof four, 1, 0, 0).refused == WORGESLI_REFUSED_NO_IMAGE);
+    EXPECT(worgesli_image_range(to, sizeof four, 2, 0, 0).refused == 0 && worgesli_image_range(to, sizeof four, 2, 0, 1).refused == WORGESLI_REFUSED_IMAGE_END);
+}
+
+/* Where it does not fit or cannot be, nothing is written; the bytes behind it never are. */
+static void untouched(const worgesli_slot *slots, size_t n, size_t room, size_t size)
+{
+    uint8_t *to = (uint8_t *)malloc(room + 1);
+    memset(to, 0x5a, room + 1);
+    EXPECT(worgesli_bundle(slots, n, to, room) == size);
+    for (size_t i = size > 0 && size <= room ? size : 0; i <= room; i++)
+        EXPECT(to[i] == 0x5a);
+    free(to);
+}
+
+static void hostile(void)
+{
+    const size_t large = 0xFFFFFFFFu, most = SIZE_MAX;
+    worgesli_slot slots[65];
+    for (size_t i = 0; i < 65; i++)
+        slots[i] = slot("x", 1);
+    for (size_t room = 0; room < 40; room++)
+        untouched(slots, 2, room, 26);
+    untouched(slots, 64, 8 + 9 * 64 - 1, 8 + 9 * 64);
+    untouched(slots, 64, 8 + 9 * 64 + 5, 8 + 9 * 64);
+    untouched(slots, 65, 1000, 0);
+    untouched(slots, most, 1000, 0);
+    untouched(slots, most / 8 + 1, 1000, 0);
+    untouched(NULL, 1, 1000, 0);
+    EXPECT(worgesli_bundle(slots, 2, NULL, most) == 26 && worgesli_bundle(slots, 2, NULL, 0) == 26);
+    /* lengths of which no byte is read: the size is told, or that there is none */
+    slots[1] = slot(NULL, 1), untouched(slots, 2, 1000, 0);
+    slots[1] = slot(NULL, most), untouched(slots, 2, 1000, 0);
+    slots[1] = slot("x", most), untouched(slots, 2, 1000, 0);
+    slots[1] = slot("x", most - 1), untouched(slots, 2, 1000, 0);
+    slots[1] = slot("x", most - 24), untouched(slots, 2, 1000, 0);
+    slots[1] = slot("x", large), untouched(slots, 2, 1000, 0);
+    slots[1] = slot("x", large - 1), untouched(slots, 2, 1000, 24 + large);
+    slots[0] = slot("x", 0), slots[1] = slot("x", large), untouched(slots, 2, 1000, 24 + large);
+    slots[0] = slot("x", large / 2 + 1), slots[1] = slots[0], untouched(slots, 2, 1000, 0);
+    slots[1] = slot("x", large / 2), untouched(slots, 2, 1000, 24 + large);
+}
+
+/* Slots at random, in a buffer of just their length: well formed, and each slot's bytes stand where the archive looks for them. */
+static void random_slots(void)
+{
+    static uint8_t bytes[300];
+    uint32_t x = 1;
+    for (size_t i = 0; i < sizeof bytes; i++)
+        bytes[i] = (uint8_t)(i * 7);
+    for (int turn = 0; turn < 3000; turn++) {
+        worgesli_slot slots[WORGESLI_SLOTS];
+        const size_t n = (size_t)turn % (WORGESLI_SLOTS + 1);
+        bool absent = false;
+        for (size_t i = 0; i < n; i++) {
+            x = x * 1664525 + 1013904223;
+            const size_t from = x >> 8 & 127, len = x >> 16 & 3 ? x >> 20 & 127 : 0;
+            slots[i] = x >> 28 == 0 ? slot(NULL, 0) : slot(bytes + from, len);
+            absent |= slots[i].bytes == NULL;
+        }
+        const size_t size = worgesli_bundle(slots, n, NULL, 0);
+        uint8_t *set = (uint8_t *)malloc(size);
+        EXPECT(size >= 8 && worgesli_bundle(slots, n, set, size) == size);
+        EXPECT(worgesli_check_images(set, size) == 0 && (worgesli_check_names(set, size) == 0) == !absent);
+        for (size_t i = 0; i < n; i++) {
+            const worgesli_range all = worgesli_image_range(set, size, i, 0, slots[i].len);
+            EXPECT(all.refused == (slots[i].bytes == NULL ? WORGESLI_REFUSED_NO_IMAGE : 0));
+            EXPECT(slots[i].len == 0 || memcmp(set + all.start, slots[i].bytes, slots[i].len) == 0);
+            EXPECT(slots[i].bytes == NULL || worgesli_image_range(set, size, i, 0, slots[i].len + 1).refused == WORGESLI_REFUSED_IMAGE_END);
+        }
+        free(set);
+    }
+}
+
+int main(void)
+{
+    words();
+    known();
+    hostile();
+    random_slots();
+    return failed;
+}
