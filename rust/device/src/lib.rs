@@ -12,7 +12,7 @@ mod wire;
 pub use bulk::Bulk;
 pub use memory::{padded, Memory, Region};
 pub use packets::*;
-pub use pty::{serve_pty, Pty};
+pub use pty::Pty;
 pub use rng::{mix, Rng};
 pub use socket::{serve, serve_until, Socket};
 pub use tape::Tape;

@@ -1,12 +1,11 @@
 //! examples/fetch.c, compiled as README.md says, fetches from the simulated device; and again under the sanitizers, with system
 //! calls that fail as they may (tests/c/faults.c). The header's bundles beside the crate's.
-use device::{done_resp, execute_resp, hello, read_data, reset_resp, serve_until, Device, Memory, Region, Rng, Turn};
+use device::{done_resp, execute_resp, hello, read_data, reset_resp, serve_until, Device, Memory, Pty, Region, Rng, Turn};
 use std::collections::BTreeMap;
-use std::ffi::c_int;
-use std::fs::{self, File, OpenOptions};
-use std::io::{self, Read, Write};
-use std::os::fd::{AsRawFd, OwnedFd};
-use std::os::unix::fs::{OpenOptionsExt, PermissionsExt};
+use std::fs::{self, File};
+use std::io::{self, Write};
+use std::os::fd::OwnedFd;
+use std::os::unix::fs::PermissionsExt;
 use std::os::unix::net::UnixStream;
 use std::path::{Path, PathBuf};
 use std::process::{Child, Command, Output, Stdio};
@@ -22,9 +21,11 @@ fn root() -> PathBuf {
     Path::new(env!("CARGO_MANIFEST_DIR")).join("../..").canonicalize().unwrap()
 }
 
-/// Says it although the test passes.
-fn not_run(what: &str) {
-    let _ = writeln!(io::stderr(), "c_example: {what}");
+/// Says it although the test passes, as the gate's tools do.
+fn not_run(why: &str, what: &str) {
+    let said = Command::new(root().join("tools/not-run")).args([why, what]).output().unwrap();
+    let _ = io::stderr().write_all(&said.stdout);
+    assert!(said.status.success(), "NOT run: {what}");
 }
 
 /// A shell's command, in the repository.
@@ -68,7 +69,7 @@ fn example(build: Build) -> Option<&'static Path> {
     static CHECKED: OnceLock<Option<PathBuf>> = OnceLock::new();
     let plain = PLAIN.get_or_init(|| {
         if !shell("command -v cc").status.success() {
-            not_run("no C compiler is on this machine: examples/fetch.c was NOT compiled and NOT run");
+            not_run("no C compiler is on this machine", "examples/fetch.c");
             return None;
         }
         let (line, to) = line_of_the_readme();
@@ -84,7 +85,7 @@ fn example(build: Build) -> Option<&'static Path> {
         .status
         .success()
         {
-            not_run("the C compiler has no sanitizers: examples/fetch.c was NOT run with them and with faults");
+            not_run("the C compiler has no sanitizers", "examples/fetch.c with them and with faults");
             return None;
         }
         let wrapped: String =
@@ -590,56 +591,6 @@ fn wrong_calls() {
 
 // ---- a terminal
 
-extern "C" {
-    fn grantpt(fd: c_int) -> c_int;
-    fn unlockpt(fd: c_int) -> c_int;
-    fn ptsname_r(fd: c_int, name: *mut u8, len: usize) -> c_int;
-    fn tcgetattr(fd: c_int, to: *mut u32) -> c_int;
-}
-
-/// A terminal's far end. Where its near end is closed, a read says so by an error.
-struct Terminal(File);
-
-impl Terminal {
-    fn new() -> Option<(Terminal, String)> {
-        let file = OpenOptions::new().read(true).write(true).custom_flags(0o400).open("/dev/ptmx").ok()?;
-        let mut name = [0u8; 64];
-        // Safe: an open descriptor, and a buffer of that length.
-        let made = unsafe {
-            (grantpt(file.as_raw_fd()), unlockpt(file.as_raw_fd()), ptsname_r(file.as_raw_fd(), name.as_mut_ptr(), 64))
-        };
-        assert_eq!(made, (0, 0, 0));
-        let len = name.iter().position(|b| *b == 0).unwrap();
-        Some((Terminal(file), String::from_utf8(name[..len].to_vec()).unwrap()))
-    }
-
-    /// Whether the host took the line discipline away: before, the device's bytes would be changed and echoed.
-    fn raw(&self) -> bool {
-        let mut t = [0u32; 64];
-        // Safe: more bytes than a termios has; its fourth word is c_lflag, of which 2 is ICANON and 8 ECHO.
-        assert_eq!(unsafe { tcgetattr(self.0.as_raw_fd(), t.as_mut_ptr()) }, 0);
-        t[3] & 10 == 0
-    }
-}
-
-impl Read for Terminal {
-    fn read(&mut self, to: &mut [u8]) -> io::Result<usize> {
-        match self.0.read(to) {
-            Err(e) if e.raw_os_error() == Some(5) => Ok(0),
-            n => n,
-        }
-    }
-}
-
-impl Write for Terminal {
-    fn write(&mut self, bytes: &[u8]) -> io::Result<usize> {
-        self.0.write(bytes)
-    }
-    fn flush(&mut self) -> io::Result<()> {
-        Ok(())
-    }
-}
-
 #[test]
 fn over_a_terminal() {
     for build in builds() {
@@ -647,11 +598,10 @@ fn over_a_terminal() {
             let (regions, names) = regions(&mut Rng::new(seed));
             let memory = memory(seed, &regions);
             let temporary = Temporary::new();
-            let Some((far, path)) = Terminal::new() else {
-                return not_run("there are no pseudo-terminals here: examples/fetch.c was NOT run over one");
+            let Ok((far, near)) = Pty::open() else {
+                return not_run("there are no pseudo-terminals here", "examples/fetch.c over one");
             };
-            // it stays open here too, or its far end has none to talk to before the program opens it
-            let near = OpenOptions::new().read(true).write(true).custom_flags(0o400).open(&path).unwrap();
+            let path = far.path().to_str().unwrap().to_owned();
             assert!(!far.raw());
             let child = Call { faults: (build == Build::Checked).then_some(seed), ..Call::new(build) }.spawn(
                 &path,

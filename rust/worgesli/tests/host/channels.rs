@@ -80,23 +80,27 @@ fn pty_world(len: u64) -> World {
 fn serial() {
     for seed in 0..6 {
         let w = pty_world(50_000 + seed);
-        let pty = Pty::open().unwrap();
+        let (pty, near) = Pty::open().unwrap();
+        assert!(!pty.raw());
         let mut channel = Serial::open(pty.path(), 115_200, Duration::from_secs(20)).unwrap();
-        let (device, reads) = (Device::dump(w.memory.clone()), w.memory_reads());
-        let far = std::thread::spawn(move || device::serve_pty(device, pty, reads, seed).unwrap());
+        assert!(pty.raw());
+        drop(near);
+        let device = Device::dump(w.memory.clone());
+        let far = std::thread::spawn(move || device::serve(device, pty, seed).unwrap());
         let mut sink = Record::default();
         let end = sahara_run(&mut channel, &w.options(), &mut sink, |_| ());
-        assert_eq!(end.unwrap(), Outcome::Dumped { reads });
+        assert_eq!(end.unwrap(), Outcome::Dumped { reads: w.memory_reads() });
+        assert_eq!(channel.read(&mut []).unwrap(), 0);
+        drop(channel);
         let (device, _) = far.join().unwrap();
         assert_eq!((sink.0 == w.kept(), device.wrong(), device.queued()), (true, None, 0), "seed {seed}");
-        assert_eq!(channel.read(&mut []).unwrap(), 0);
     }
 }
 
 /// A silent line times out and a line that is hung up does not wait; what is no tty, and a speed that is none, is refused.
 #[test]
 fn serial_faults() {
-    let pty = Pty::open().unwrap();
+    let (pty, near) = Pty::open().unwrap();
     let mut channel = Serial::open(pty.path(), 921_600, Duration::from_millis(30)).unwrap();
     let start = Instant::now();
     assert_eq!(channel.read(&mut [0; 8]).unwrap_err().kind(), ErrorKind::TimedOut);
@@ -107,7 +111,7 @@ fn serial_faults() {
     assert_eq!(full.kind(), ErrorKind::TimedOut);
     assert_eq!(Serial::open(pty.path(), 12_345, Duration::ZERO).unwrap_err().kind(), ErrorKind::InvalidInput);
     channel.set_timeout(Duration::from_secs(60));
-    drop(pty);
+    drop((pty, near));
     let start = Instant::now();
     match channel.read(&mut [0; 8]) {
         Ok(n) => assert_eq!(n, 0),
