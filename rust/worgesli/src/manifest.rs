@@ -20,10 +20,13 @@ pub struct Kept {
     pub name: Vec<u8>,
     /// its file in the folder; it ends in `.part` until the region is whole
     pub file: String,
+    /// where it is in the device's memory
     pub base: u64,
+    /// how long it is there
     pub len: u64,
     /// how many bytes were written when the manifest was; the file of a region that is being fetched has more
     pub bytes: u64,
+    /// how it stands
     pub state: State,
     /// of the file's first `bytes` bytes; none where digests are switched off
     pub sha256: Option<[u8; 32]>,
