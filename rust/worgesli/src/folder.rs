@@ -65,10 +65,12 @@ impl Folder {
     fn on(disk: Arc<dyn Disk>, path: &Path) -> io::Result<Folder> {
         make_folders(&*disk, path)?;
         let mut folder = Folder::with(disk, path, PathBuf::new(), Vec::new())?;
-        let (file, name) = folder.claim_manifest()?;
-        folder.manifest = folder.path.join(name);
-        folder.write_manifest(&file)?;
-        Ok(folder)
+        let claim = folder.claim_manifest()?;
+        let saved = folder.save();
+        // given up where that failed: nothing is to be written there any more
+        folder.unsaved = false;
+        let _ = folder.disk.remove(&claim);
+        saved.map(|()| folder)
     }
 
     fn with(disk: Arc<dyn Disk>, path: &Path, manifest: PathBuf, regions: Vec<Kept>) -> io::Result<Folder> {
@@ -139,37 +141,43 @@ impl Folder {
             if ours.contains(&name.to_ascii_lowercase()) {
                 continue;
             }
-            if let Some(file) = self.claimed(&format!("{name}{PART}"), &name)? {
-                return Ok((file, format!("{name}{PART}")));
+            let part = format!("{name}{PART}");
+            if let Some(file) = self.claimed(&part, &[&name])? {
+                return Ok((file, part));
             }
         }
         Err(ErrorKind::AlreadyExists.into())
     }
 
-    /// The manifest's name has a `~` with more than a number behind it, which no region's has.
-    fn claim_manifest(&self) -> io::Result<(File, String)> {
+    /// Takes a name for the manifest, and gives the file that holds it until there is a manifest. The names have a `~` with more than a
+    /// number behind it, which no region's has.
+    fn claim_manifest(&mut self) -> io::Result<PathBuf> {
         for n in 1u64.. {
             let name = format!("manifest~{n}.tsv");
-            if let Some(file) = self.claimed(&format!("{name}.new"), &name)? {
-                return Ok((file, name));
+            let claim = format!("{name}.claim");
+            if self.claimed(&claim, &[&name, &format!("{name}.new")])?.is_some() {
+                self.manifest = self.at(&name);
+                return Ok(self.at(&claim));
             }
         }
         Err(ErrorKind::AlreadyExists.into())
     }
 
-    /// Makes a new file of the first name, and gives it up again where there is one of the second.
-    fn claimed(&self, first: &str, second: &str) -> io::Result<Option<File>> {
-        let file = match self.disk.create(&self.at(first)) {
+    /// Makes a new file, and gives it up again where one of the others is there.
+    fn claimed(&self, name: &str, others: &[&str]) -> io::Result<Option<File>> {
+        let file = match self.disk.create(&self.at(name)) {
             Err(e) if e.kind() == ErrorKind::AlreadyExists => return Ok(None),
             file => file?,
         };
-        match self.disk.look(&self.at(second)) {
-            Ok(None) => Ok(Some(file)),
-            found => {
-                let removed = self.disk.remove(&self.at(first));
-                found.and(removed).map(|()| None)
-            }
+        let free = others.iter().try_fold(true, |free, other| Ok(free && self.disk.look(&self.at(other))?.is_none()));
+        if matches!(free, Ok(true)) {
+            return Ok(Some(file));
         }
+        let removed = match self.disk.remove(&self.at(name)) {
+            Err(e) if e.kind() == ErrorKind::NotFound => Ok(()),
+            removed => removed,
+        };
+        free.and(removed).map(|()| None)
     }
 
     /// Replaces the manifest: a new file, synced, gets its name, and the folder is synced. What fails on the way is made anew from the

@@ -20,9 +20,9 @@ pub struct Kept {
     pub name: Vec<u8>,
     /// its file in the folder; it ends in `.part` until the region is whole
     pub file: String,
-    /// its address
+    /// where it is in the device's memory
     pub base: u64,
-    /// its length
+    /// how long it is there
     pub len: u64,
     /// how many bytes were written when the manifest was; the file of a region that is being fetched has more
     pub bytes: u64,

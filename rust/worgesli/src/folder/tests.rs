@@ -249,11 +249,19 @@ fn dies_after_each_call() {
             let (mut folder, taken) = go_on(&disk, &t.0, &mut player, back);
             kept += taken;
             assert!(player.run(&mut folder), "end {end}");
-            all_whole(&folder, &world);
+            let regions = all_whole(&folder, &world);
             synced_too(&disk, &folder, &world);
+            assert!(fault.is_some() || nothing_lost(&regions), "{regions:?}");
         }
     }
     assert!(kept > 100_000, "{kept} bytes were not fetched again");
+}
+
+/// No region is lost but one that the driver began again, or had whole already and did not know.
+fn nothing_lost(regions: &[Kept]) -> bool {
+    let whole = |k: &Kept, i: usize| regions[..i].iter().any(|b| b.place == k.place && b.state == State::Whole);
+    let lost = |k: &Kept| matches!(&k.state, State::Lost(why) if why != "begun again");
+    regions.iter().enumerate().all(|(i, k)| !lost(k) || whole(k, i))
 }
 
 /// Goes on from a manifest, or begins anew where there is none yet. Gives how many bytes of the open region it went on with.
@@ -277,6 +285,7 @@ fn each_call_of_going_on_fails() {
     for end in (20..110).step_by(3) {
         for from in 0..30 {
             for way in 0..3 {
+                let back = from as usize % 3;
                 let t = Temporary::new();
                 let disk = Shaky::new(&t.0, None);
                 disk.die_after(end);
@@ -288,19 +297,20 @@ fn each_call_of_going_on_fails() {
                 if way == 2 {
                     disk.die_after(from);
                     let manifest = t.0.join("manifest~1.tsv");
-                    let saved = player.now();
+                    let saved = player.saved.clone();
                     if let Ok(mut folder) = Folder::resume_on(disk.clone(), &manifest) {
-                        player.resume(&mut folder, 0);
+                        player.resume(&mut folder, back);
                         player.run(&mut folder);
                     }
                     // it died before it saved itself
-                    player.saved = vec![saved];
+                    player.saved = saved;
                     disk.live(None);
                 }
-                let (mut folder, _) = go_on(&disk, &t.0, &mut player, 0);
+                let (mut folder, _) = go_on(&disk, &t.0, &mut player, back);
                 assert!(player.run(&mut folder), "end {end}, from {from}");
-                all_whole(&folder, &world);
+                let regions = all_whole(&folder, &world);
                 synced_too(&disk, &folder, &world);
+                assert!(way < 2 || nothing_lost(&regions), "{regions:?}");
                 failed += disk.failed().len();
             }
         }
@@ -506,11 +516,11 @@ fn file_taken_away() {
     }
 }
 
-/// The folders are made, one by one, whatever call fails.
+/// The folders are made, one by one, whatever call fails, and the name of each is synced.
 #[test]
 fn folders_are_made() {
     use std::os::unix::fs::PermissionsExt;
-    for from in 0..12 {
+    for from in 0..14 {
         let t = Temporary::new();
         let path = t.0.join("a/b/c");
         let disk = Shaky::new(&path, Some(Fault { from, times: 1, error: 5, effect: false }));
@@ -518,6 +528,7 @@ fn folders_are_made() {
         assert_eq!(disk.failed().len(), 1);
         for path in [folder.path(), &t.0.join("a/b"), &t.0.join("a")] {
             assert_eq!(fs::metadata(path).unwrap().permissions().mode() & 0o777, 0o700);
+            assert!(disk.synced_folder(path.parent().unwrap()));
         }
     }
 }

@@ -211,7 +211,7 @@ fn parts_have_other_names() {
 /// No file that is there is opened or overwritten: no file, no folder, no link, wherever it leads; a `.part` neither.
 #[test]
 fn no_file_is_overwritten() {
-    for name in ["DDR.BIN", "DDR.BIN.part", "manifest~1.tsv", "manifest~1.tsv.new"] {
+    for name in ["DDR.BIN", "DDR.BIN.part", "manifest~1.tsv", "manifest~1.tsv.new", "manifest~1.tsv.claim"] {
         for way in 0..4 {
             let t = Temporary::new();
             let (path, other) = (t.dump().join(name), t.0.join("other"));
@@ -265,7 +265,7 @@ fn several_at_a_time() {
         }
     }
     assert_eq!(t.names().iter().filter(|n| n.starts_with("SAME.BIN")).count(), 48);
-    assert!(!t.names().iter().any(|n| n.ends_with(".part") || n.ends_with(".new")));
+    assert_eq!(t.names().len(), 48 + 4);
 }
 
 /// Files and folders are for the owner alone. A folder that is there keeps its mode.
@@ -358,7 +358,20 @@ fn manifest() {
     let mut sink = Folder::new(t.dump()).unwrap().digests(false);
     fetch(&regions, &mut sink).1.unwrap();
     assert!(sink.regions().iter().all(|k| k.sha256.is_none() && k.state == State::Whole));
-    assert!(!format!("{sink:?}").contains("hash"));
+}
+
+/// A sink can be sent to another thread, and prints no byte of a region.
+#[test]
+fn printed() {
+    fn sent<T: Send + Sync>(sink: &T) -> &T {
+        sink
+    }
+    let t = Temporary::new();
+    let mut sink = Folder::new(t.dump()).unwrap().limit(1234);
+    sink.open(0, &entry(b"A", 0, 90)).unwrap();
+    keep(&mut sink, &[171; 50]);
+    let said = format!("{:?}", sent(&sink));
+    assert!(said.contains("A.part") && said.contains("1234") && !said.contains("171, 171"), "{said}");
 }
 
 /// A region that another process began goes on from where the driver was, whatever more was written.

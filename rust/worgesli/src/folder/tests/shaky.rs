@@ -76,6 +76,8 @@ struct Model {
     synced: Names,
     /// names that changed since the folder was synced
     changed: BTreeSet<PathBuf>,
+    /// inodes of folders that were synced
+    folders: BTreeSet<u64>,
 }
 
 #[derive(Debug)]
@@ -101,6 +103,9 @@ impl Model {
     fn sync(&mut self, file: &File, well: bool) {
         let m = file.metadata().unwrap();
         if m.is_dir() {
+            if well {
+                self.folders.insert(m.ino());
+            }
             // those above the folder have no names here
             if fs::metadata(&self.folder).is_ok_and(|f| f.ino() == m.ino()) {
                 for n in std::mem::take(&mut self.changed).into_iter().filter(|_| well) {
@@ -153,6 +158,10 @@ impl Shaky {
     /// The next call of a kind fails, without effect.
     pub fn fail_next(&self, kind: &'static str, error: i32) {
         self.model().next = Some((kind, error));
+    }
+
+    pub fn synced_folder(&self, path: &Path) -> bool {
+        self.model().folders.contains(&fs::metadata(path).unwrap().ino())
     }
 
     /// Calls so far.
