@@ -13,16 +13,16 @@ pub const CHILD: &str = "WORGESLI_TEST_CHILD";
 /// The steps that a child makes before it is killed.
 pub const STEPS: &str = "WORGESLI_TEST_STEPS";
 
-/// A folder of its own, gone afterwards.
+/// A folder of its own, in memory where that can be had (some thousand files are synced), gone afterwards.
 pub struct Temporary(pub PathBuf);
 
 impl Temporary {
     pub fn new() -> Temporary {
         static NEXT: AtomicU32 = AtomicU32::new(0);
         let n = NEXT.fetch_add(1, Ordering::Relaxed);
-        let path = std::env::temp_dir().join(format!("worgesli-process-{}-{n}", std::process::id()));
-        fs::create_dir(&path).unwrap();
-        Temporary(path)
+        let name = format!("worgesli-process-{}-{n}", std::process::id());
+        let made = |folder: &Path| fs::create_dir(folder.join(&name)).map(|()| folder.join(&name));
+        Temporary(made("/dev/shm".as_ref()).or_else(|_| made(&std::env::temp_dir())).unwrap())
     }
 }
 
