@@ -133,7 +133,7 @@ mod tests {
         }
     }
 
-    /// Any bytes: printable, one step down, and back; and what is no name of ours is told.
+    /// Any bytes: printable, one step down, and back.
     #[test]
     fn any_bytes() {
         let mut rng = Rng::new(8);
@@ -149,6 +149,11 @@ mod tests {
             assert!(!file.to_ascii_lowercase().ends_with(PART), "{file}");
             assert_eq!(unescape(&file), Some(name));
         }
+    }
+
+    /// What is no name of ours is told.
+    #[test]
+    fn foreign_names() {
         let foreign = [
             "",
             "a~",

@@ -185,6 +185,12 @@ impl Folder {
     fn save(&mut self) -> io::Result<()> {
         self.unsaved = true;
         self.snapshot();
+        self.write_manifest().map_err(saying("the manifest could not be written"))?;
+        self.unsaved = false;
+        Ok(())
+    }
+
+    fn write_manifest(&self) -> io::Result<()> {
         let new = self.new_manifest();
         let file = match self.disk.create(&new) {
             // left by a process that died
@@ -194,21 +200,14 @@ impl Folder {
             }
             file => file?,
         };
-        self.write_manifest(&file)
-    }
-
-    fn write_manifest(&mut self, file: &File) -> io::Result<()> {
-        let new = self.new_manifest();
         let text = manifest::text(&self.regions);
-        let written = write_all(&*self.disk, file, text.as_bytes())
-            .and_then(|()| self.disk.sync(file))
+        let written = write_all(&*self.disk, &file, text.as_bytes())
+            .and_then(|()| self.disk.sync(&file))
             .and_then(|()| self.disk.rename(&new, &self.manifest));
         if written.is_err() {
             let _ = self.disk.remove(&new);
         }
-        written.and_then(|()| self.disk.sync(&self.held))?;
-        self.unsaved = false;
-        Ok(())
+        written.and_then(|()| self.disk.sync(&self.held))
     }
 
     fn new_manifest(&self) -> PathBuf {
@@ -261,6 +260,11 @@ impl Folder {
     }
 }
 
+/// Says what it was that failed. The kind stays.
+fn saying<'a>(what: &'a str) -> impl Fn(io::Error) -> io::Error + 'a {
+    move |e| io::Error::new(e.kind(), format!("{what}: {e}"))
+}
+
 impl Sink for Folder {
     /// Made anew after an error of the manifest, it goes on with the file that it made.
     fn open(&mut self, place: usize, entry: &Entry) -> io::Result<()> {
@@ -275,7 +279,8 @@ impl Sink for Folder {
                 format!("the region at place {place} would bring the sum of lengths to {sum}, above the limit of {}", self.limit);
             return Err(io::Error::new(ErrorKind::QuotaExceeded, why));
         }
-        let (file, name) = self.claim(&escape(table_name(entry)))?;
+        let name = escape(table_name(entry));
+        let (file, name) = self.claim(&name).map_err(saying(&format!("no file could be made for {name}")))?;
         let line = self.regions.len();
         self.regions.push(Kept::new(place, entry, name));
         let hash = self.digests.then(Sha256::new);

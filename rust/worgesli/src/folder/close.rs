@@ -8,7 +8,7 @@
 //! 5. The manifest says `whole`.
 //!
 //! What fails in 1, 3, 4 and 5 loses nothing, and is made again.
-use super::{Current, Folder};
+use super::{saying, Current, Folder};
 use crate::escape::{escape, PART};
 use crate::manifest::{Kept, State};
 use crate::Unkept;
@@ -96,7 +96,7 @@ impl Folder {
         let (is, name) = (self.disk.look(&part)?, self.disk.look(&whole)?);
         match (is.as_ref().is_some_and(fits), name) {
             (true, None) => {
-                self.disk.rename(&part, &whole)?;
+                self.disk.rename(&part, &whole).map_err(saying(&format!("{whole_name} could not get its final name")))?;
                 self.called(line, whole_name);
                 self.reach(Stage::Named);
                 Ok(())
@@ -131,7 +131,7 @@ impl Folder {
             self.reach(Stage::Synced);
             // made again by the next call, where this fails
             let _ = self.part_name();
-            return Err(io::Error::new(e.kind(), format!("the sync of the folder failed: {e}")).into());
+            return Err(saying("the sync of the folder failed")(e).into());
         }
         self.reach(Stage::Placed);
         Ok(())

@@ -104,42 +104,43 @@ fn a_file_for_each_region() {
     assert_eq!(t.names().len(), 6 + 1);
 }
 
+const HOSTILE: [&[u8]; 24] = [
+    b"",
+    b".",
+    b"..",
+    b"../x",
+    b"/etc/x",
+    b"A/B.BIN",
+    b"a/",
+    b"\\x",
+    b"..\\x",
+    b"/",
+    b"-rf",
+    b" a ",
+    b"%",
+    b"%41",
+    b"~",
+    b"a~2",
+    b"a.part",
+    b"\x1b[2J",
+    b"nul\n",
+    b"tab\there",
+    "\u{202e}NIB.EKAT".as_bytes(),
+    &[b'/'; 19],
+    b"manifest~1.tsv",
+    b"manifest~1.tsv.new",
+];
+
 /// No name stops a fetch: each is escaped, in the folder and in the manifest, and can be had back.
 #[test]
 fn hostile_filenames() {
-    let names: [&[u8]; 24] = [
-        b"",
-        b".",
-        b"..",
-        b"../x",
-        b"/etc/x",
-        b"A/B.BIN",
-        b"a/",
-        b"\\x",
-        b"..\\x",
-        b"/",
-        b"-rf",
-        b" a ",
-        b"%",
-        b"%41",
-        b"~",
-        b"a~2",
-        b"a.part",
-        b"\x1b[2J",
-        b"nul\n",
-        b"tab\there",
-        "\u{202e}NIB.EKAT".as_bytes(),
-        &[b'/'; 19],
-        b"manifest~1.tsv",
-        b"manifest~1.tsv.new",
-    ];
-    let mut regions: Vec<Region> = names.iter().zip(1..).map(|(name, n)| Region::new(name, n, 100 + n)).collect();
+    let mut regions: Vec<Region> = HOSTILE.iter().zip(1..).map(|(name, n)| Region::new(name, n, 100 + n)).collect();
     regions.push(Region::new("BEHIND.BIN", 1 << 20, 3000));
     let t = Temporary::new();
     let mut sink = Folder::new(t.dump()).unwrap();
     let (memory, end) = fetch(&regions, &mut sink);
     assert_eq!(end.unwrap(), Outcome::Dumped { reads: 26 });
-    for ((kept, r), name) in sink.regions().iter().zip(&regions).zip(names) {
+    for ((kept, r), name) in sink.regions().iter().zip(&regions).zip(HOSTILE) {
         assert_eq!((kept.name.as_slice(), &kept.file), (name, &escape(name)));
         assert_eq!(unescape(&kept.file).unwrap(), name);
         assert!(t.read(&kept.file) == memory.bytes(r.base, r.len as usize));
@@ -403,35 +404,38 @@ fn another_process_goes_on() {
     }
 }
 
+type Spoil = fn(&Path);
+
+/// What may happen to a file between two processes, and what is said of it.
+const SPOILT: [(&str, Spoil); 7] = [
+    ("is not there", |part| fs::remove_file(part).unwrap()),
+    ("has 3999 bytes, and 4000 were taken", |part| File::options().write(true).open(part).unwrap().set_len(3999).unwrap()),
+    ("is no plain file", |part| {
+        fs::rename(part, part.with_file_name("elsewhere")).unwrap();
+        symlink("elsewhere", part).unwrap();
+    }),
+    ("is no plain file", |part| {
+        fs::remove_file(part).unwrap();
+        fs::create_dir(part).unwrap();
+    }),
+    ("are not those that were written", |part| {
+        let mut bytes = fs::read(part).unwrap();
+        bytes[1234] ^= 1;
+        fs::write(part, bytes).unwrap();
+    }),
+    // the final name alone, of a region whose close was not begun
+    ("is not there", |part| fs::rename(part, part.with_extension("")).unwrap()),
+    ("is not there", |part| {
+        fs::remove_file(part).unwrap();
+        fs::write(part.with_extension(""), [0; 9000]).unwrap();
+    }),
+];
+
 /// What cannot be gone on with is told: the region is lost, and comes again into another file.
 #[test]
 fn cannot_go_on() {
     let (e, bytes) = (entry(b"A", 0, 9000), Memory::new(1, 1 << 40, &[]).bytes(77, 9000));
-    type Spoil = fn(&Path);
-    let cases: [(&str, Spoil); 7] = [
-        ("is not there", |part| fs::remove_file(part).unwrap()),
-        ("has 3999 bytes, and 4000 were taken", |part| File::options().write(true).open(part).unwrap().set_len(3999).unwrap()),
-        ("is no plain file", |part| {
-            fs::rename(part, part.with_file_name("elsewhere")).unwrap();
-            symlink("elsewhere", part).unwrap();
-        }),
-        ("is no plain file", |part| {
-            fs::remove_file(part).unwrap();
-            fs::create_dir(part).unwrap();
-        }),
-        ("are not those that were written", |part| {
-            let mut bytes = fs::read(part).unwrap();
-            bytes[1234] ^= 1;
-            fs::write(part, bytes).unwrap();
-        }),
-        // the final name alone, of a region whose close was not begun
-        ("is not there", |part| fs::rename(part, part.with_extension("")).unwrap()),
-        ("is not there", |part| {
-            fs::remove_file(part).unwrap();
-            fs::write(part.with_extension(""), [0; 9000]).unwrap();
-        }),
-    ];
-    for (why, spoil) in cases {
+    for (why, spoil) in SPOILT {
         let t = Temporary::new();
         let mut sink = Folder::new(t.dump()).unwrap();
         sink.open(5, &e).unwrap();
