@@ -1,9 +1,11 @@
 //! examples/fetch.c, compiled as README.md says, fetches from the simulated device; and again under the sanitizers, with system
 //! calls that fail as they may (tests/c/faults.c). The header's bundles beside the crate's.
-use device::{done_resp, execute_resp, hello, read_data, reset_resp, serve_until, Device, Memory, Pty, Region, Rng, Turn};
+use device::{
+    done_resp, execute_resp, hello, not_run, read_data, reset_resp, serve_until, Device, Memory, Pty, Region, Rng, Turn,
+};
 use std::collections::BTreeMap;
 use std::fs::{self, File};
-use std::io::{self, Write};
+use std::io::Write;
 use std::os::fd::OwnedFd;
 use std::os::unix::fs::PermissionsExt;
 use std::os::unix::net::UnixStream;
@@ -19,13 +21,6 @@ use worgesli::ImageSet;
 
 fn root() -> PathBuf {
     Path::new(env!("CARGO_MANIFEST_DIR")).join("../..").canonicalize().unwrap()
-}
-
-/// Says it although the test passes, as the gate's tools do.
-fn not_run(why: &str, what: &str) {
-    let said = Command::new(root().join("tools/not-run")).args([why, what]).output().unwrap();
-    let _ = io::stderr().write_all(&said.stdout);
-    assert!(said.status.success(), "NOT run: {what}");
 }
 
 /// A shell's command, in the repository.

@@ -1,5 +1,5 @@
 //! The sink that writes files.
-use device::{Device, Division, Faults, Memory, Region, Wire};
+use device::{not_run, Device, Division, Faults, Memory, Region, Wire};
 use std::fs::{self, File};
 use std::io::ErrorKind;
 use std::os::unix::fs::{symlink, PermissionsExt};
@@ -9,12 +9,6 @@ use std::sync::atomic::{AtomicU32, Ordering};
 use worgesli::{
     escape, read_manifest, unescape, Backend, Driver, Entry, Error, Folder, Kept, Mode, Options, Outcome, Sink, State, Unkept,
 };
-
-/// Says it although the test passes, as the gate's tools do.
-fn not_run(why: &str, what: &str) {
-    let tool = concat!(env!("CARGO_MANIFEST_DIR"), "/../../tools/not-run");
-    assert!(Command::new(tool).args([why, what]).status().unwrap().success());
-}
 
 /// A folder of its own for each test, gone afterwards.
 pub struct Temporary(pub PathBuf);

@@ -20,8 +20,7 @@ fn shim(folder: &Path) -> Option<PathBuf> {
             Some(library)
         }
         Err(_) => {
-            let what = ["no C compiler is on this machine", "the fetch with failing system calls"];
-            assert!(Command::new(here.join("../../tools/not-run")).args(what).status().unwrap().success());
+            device::not_run("no C compiler is on this machine", "the fetch with failing system calls");
             None
         }
     }
