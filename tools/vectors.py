@@ -475,7 +475,8 @@ for names in lists[:3]:
 
 
 def next_selected(table, entries, names, start):
-    found = [i for i in range(start, entries) if is_selected(table, i, names)]
+    there = min(entries, len(entries_of(table)))  # no other entry is there to be selected
+    found = [i for i in range(start, there) if is_selected(table, i, names)]
     case("y", [table, entries, names, start], str(found[0] if found else max(start, entries)))
 
 
@@ -486,6 +487,9 @@ for names in lists:
 for start in [2**32, 2**64 - 1]:
     next_selected(table, 3, names_of(), start)
 next_selected(table[:130], 5, names_of(b"a"), 1)  # more entries than the table has
+for names in lists:
+    for start in [0, 2, 3, 2**63, 2**64 - 1]:
+        next_selected(table, 2**64 - 1, names, start)
 next_selected(b"", 0, names_of(), 0)
 
 folder = pathlib.Path(__file__).resolve().parent.parent / "crates" / "vectors"
