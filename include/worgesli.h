@@ -231,7 +231,8 @@ worgesli_range worgesli_image_range(const uint8_t *set, size_t set_len, uint64_t
 /* Entry i of a table. */
 worgesli_entry worgesli_entry_at(const uint8_t *table, size_t table_len, size_t i);
 
-/* The first selected entry from `from` on and before `entries`; where there is none, `entries` (`from` if that is not below it). */
+/* The first selected entry from `from` on and before `entries`; where there is none, `entries` (`from` if that is not below it). No entry behind the
+ * table's end is selected or looked at: `entries` may be SIZE_MAX. */
 size_t worgesli_next_selected(const uint8_t *table, size_t table_len, size_t entries, const uint8_t *names, size_t names_len, size_t from);
 
 /* Whether the bytes are UTF-8. */

@@ -2,11 +2,11 @@
 use mathlib.Core.Path.{_≡_, refl, sym, ap, _∙_}
 use mathlib.Core.Bool.{Bool, true, false, not}
 use mathlib.Core.List.{List, [], _∷_, map}
-use Prim.Native.Nat.{ℕ, zero, suc, _+_, _*_, _-_, _<_, _≤_}
+use Prim.Native.Nat.{ℕ, zero, suc, _+_, _*_, _-_, _/_, _<_, _≤_}
 use native.Mathlib.Omega.{arith}
 use native.Mathlib.Numerals.{add-one}
 use native.Mathlib.Nat.{add-suc, suc-add, mul-le-mul-left, le-trans, le-refl, sub-zero}
-use borrow.Author.Tests.{eqb-true, eqb-false, eq-eqb, ne-eqb}
+use borrow.Author.Tests.{eqb-true, eqb-false, eq-eqb, ne-eqb, le-ltb}
 use lib.Dec.{eqb}
 use lib.ListN.{length, take, drop, getD, length-map, length-take, length-drop, drop-of-length-le}
 use lib.Seq.{drop-cons}
@@ -17,7 +17,7 @@ use Rattle.bundle.specs.Bundle.{slotOf, countOf}
 use Rattle.bundle.specs.declared.Slot.the-variants.{At}
 use Rattle.filename.specs.Filename.{stemOf}
 use Rattle.entry.specs.Entry.{entrySize, entryOf, there, preferenceOf, filenameOf}
-use Rattle.entry.proofs.Laws.{there-take, entryOf-take}
+use Rattle.entry.proofs.Laws.{there-below, there-take, entryOf-take}
 use Rattle.selection.specs.Selection.{low, withName, namesFrom, same, member, named, selected, selectedAt, nextOf}
 
 -- byte strings of different lengths are not the same
@@ -110,6 +110,13 @@ next-on f names t k i h = rw h refl
 pub next-none : (f : ℕ) (names t : List ℕ) (i : ℕ) → nextOf f names t 0 i ≡ i
 unfolding nextOf
 next-none f names t i = refl
+
+-- behind the table's end no entry is selected, and so there is no next one
+pub next-beyond : (f : ℕ) (names t : List ℕ) (k i : ℕ) → length t / entrySize f ≤ i → nextOf f names t k i ≡ i + k
+next-beyond f names t zero i h = next-none f names t i ∙ omega arith
+next-beyond f names t (suc k) i h =
+    let e : there f t i ≡ false = there-below f t i ∙ le-ltb i (length t / entrySize f) h in
+    next-on f names t k i (selected-missing f names t i e) ∙ next-beyond f names t k (suc i) (omega arith) ∙ omega arith
 
 -- the next selected of k entries from i on lies from i on
 pub next-from : (f : ℕ) (names t : List ℕ) (k i : ℕ) → i ≤ nextOf f names t k i

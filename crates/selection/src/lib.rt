@@ -74,12 +74,16 @@ pub fn is_selected(table: &[u8], i: usize, names: &[u8]) -> bool
     named(names, n, &filename[..size])
 }
 
-// The first selected entry from `from` on and before `entries`; `entries` where there is none (`from` where it is not below `entries`).
+// The first selected entry from `from` on and before `entries`; `entries` where there is none (`from` where it is not below `entries`). The search ends
+// with the table: of what lies behind it nothing is selected, however many entries are named.
 pub fn next_selected(table: &[u8], entries: usize, names: &[u8], from: usize) -> usize
     ensures { λ r. ⌜ r ≡ nextOf 8 (now (names .entry)) (now (table .entry)) (entries - from) from ⌝ }
 {
     let mut i = from;
     while i < entries {
+        if table.len() / 64 <= i {
+            return entries;
+        }
         if is_selected(table, i, names) {
             return i;
         }

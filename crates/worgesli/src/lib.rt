@@ -192,7 +192,7 @@ pub extern "C" fn worgesli_entry_at(table: &[u8], i: usize) -> RawEntry
     raw_records::raw_entry(entry_at(table, i))
 }
 
-// The first selected entry from `from` on and before `entries`.
+// The first selected entry from `from` on and before `entries`; the search ends with the table.
 #[no_mangle]
 pub extern "C" fn worgesli_next_selected(
     table: &[u8],

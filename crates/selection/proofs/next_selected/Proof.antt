@@ -1,4 +1,5 @@
--- `selection::next_selected` meets its contract. The loop's invariant: the search from here on is the whole search. Assumes nothing.
+-- `selection::next_selected` meets its contract. The loop's invariant: the search from here on is the whole search; behind the table's end it comes to
+-- `entries` by `next-beyond`. Assumes nothing.
 use mathlib.Core.Path.{_≡_, refl, sym, ap, _∙_}
 use Prim.Native.Nat.{ℕ, suc, _+_, _-_}
 use mathlib.Core.Bool.{true, false}
@@ -7,7 +8,7 @@ use native.Mathlib.Numerals.{add-one}
 use native.Mathlib.Omega.{arith}
 use denote.Ref.{now}
 use Rattle.selection.specs.Selection.{selectedAt, nextOf}
-use Rattle.selection.proofs.Laws.{next-here, next-on, next-none}
+use Rattle.selection.proofs.Laws.{next-here, next-on, next-none, next-beyond}
 use borrow.Author.Needs.{needs}
 use Rattle.selection.proofs.next_selected.Statement.{statement}
 use Rattle.selection.proofs.next_selected.Tie as tie
@@ -21,17 +22,26 @@ abbrev μ-loop : tie.MeasureT-loop
 loop-holds : tie.Need-loop-holds Inv-loop μ-loop
 loop-holds c = refl
 
+returns : tie.Need-returns Inv-loop μ-loop
+returns c =
+    let a = c .before .before .before .before .before .args in
+    let l = c .before .before .loop in
+    let t : List ℕ = now (a .table) in
+    let names : List ℕ = now (a .names) in
+    let k : l .i + (a .entries - l .i) ≡ a .entries = omega arith in
+    sym (l .inv ∙ next-beyond 8 names t (a .entries - l .i) (l .i) (c .if1 .taken) ∙ k)
+
 is-selected-requires : tie.Need-is-selected-requires Inv-loop μ-loop
 is-selected-requires c κs = search needs
 
-returns : tie.Need-returns Inv-loop μ-loop
-returns c =
-    let a = c .before .before .before .before .before .before .args in
-    let l = c .before .before .before .loop in
+returns-2 : tie.Need-returns-2 Inv-loop μ-loop
+returns-2 c =
+    let a = c .before .before .before .before .before .before .before .args in
+    let l = c .before .before .before .before .loop in
     let t : List ℕ = now (a .table) in
     let names : List ℕ = now (a .names) in
     let k : a .entries - l .i ≡ suc (a .entries - (l .i + 1)) = omega arith in
-    let s : selectedAt 8 names t (l .i) ≡ true = sym (c .before .is-selected .ensures) ∙ c .if1 .taken in
+    let s : selectedAt 8 names t (l .i) ≡ true = sym (c .before .is-selected .ensures) ∙ c .if2 .taken in
     sym (l .inv ∙ ap (λ (k : ℕ). nextOf 8 names t k (l .i)) k ∙ next-here 8 names t (a .entries - (l .i + 1)) (l .i) s)
 
 add-i : tie.Need-add-i Inv-loop μ-loop
@@ -42,16 +52,16 @@ loop-less c = omega arith
 
 loop-again : tie.Need-loop-again Inv-loop μ-loop
 loop-again c =
-    let a = c .before .before .before .before .before .before .args in
-    let l = c .before .before .before .loop in
+    let a = c .before .before .before .before .before .before .before .args in
+    let l = c .before .before .before .before .loop in
     let t : List ℕ = now (a .table) in
     let names : List ℕ = now (a .names) in
     let k : a .entries - l .i ≡ suc (a .entries - (l .i + 1)) = omega arith in
-    let s : selectedAt 8 names t (l .i) ≡ false = sym (c .before .is-selected .ensures) ∙ c .if1 .left in
+    let s : selectedAt 8 names t (l .i) ≡ false = sym (c .before .is-selected .ensures) ∙ c .if2 .left in
     l .inv ∙ ap (λ (k : ℕ). nextOf 8 names t k (l .i)) k ∙ next-on 8 names t (a .entries - (l .i + 1)) (l .i) s ∙ rw add-one refl
 
-returns-2 : tie.Need-returns-2 Inv-loop μ-loop
-returns-2 c =
+returns-3 : tie.Need-returns-3 Inv-loop μ-loop
+returns-3 c =
     let a = c .before .before .before .before .args in
     let l = c .before .loop in
     let t : List ℕ = now (a .table) in
@@ -66,9 +76,10 @@ next-selected-spec =
     Inv-loop
     μ-loop
     loop-holds
-    is-selected-requires
     returns
+    is-selected-requires
+    returns-2
     add-i
     loop-less
     loop-again
-    returns-2)
+    returns-3)

@@ -110,6 +110,21 @@ fn tables() {
     }
 }
 
+/// Behind a table's end nothing is selected, and nothing is searched: these would not come to an end otherwise.
+#[test]
+fn more_entries_than_the_table_has() {
+    let table = [device::Region::new(b"A.BIN", 0, 1).unpreferred().bytes(), device::Region::new(b"B.BIN", 0, 1).bytes()].concat();
+    let names = |names: &[&str]| NameList::new(names).unwrap();
+    for (list, found) in [(names(&[]), Some(1)), (names(&["a"]), Some(0)), (names(&["c"]), None)] {
+        assert_eq!(next_selected(&table, usize::MAX, &list, 0), found);
+        assert_eq!(next_selected(&table[..127], usize::MAX, &list, 1), None);
+        for from in [2, 1 << 32, usize::MAX] {
+            assert_eq!(next_selected(&table, usize::MAX, &list, from), None);
+        }
+        assert_eq!(next_selected(&[], usize::MAX, &list, 0), None);
+    }
+}
+
 /// Document 01's stems: the part before the first '.', zero bytes included.
 #[test]
 fn stems() {
