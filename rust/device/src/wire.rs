@@ -20,6 +20,8 @@ pub struct Faults {
     pub would_block: u32,
     /// writes take a part only
     pub short_writes: bool,
+    /// writes time out
+    pub no_writes: bool,
     /// the device hears what is written at the next flush
     pub buffered: bool,
     /// after so many bytes were read the channel is at its end
@@ -126,6 +128,9 @@ impl Read for Wire {
 impl Write for Wire {
     fn write(&mut self, bytes: &[u8]) -> io::Result<usize> {
         self.fault()?;
+        if self.faults.no_writes {
+            return Err(ErrorKind::TimedOut.into());
+        }
         let n = match self.faults.short_writes && !bytes.is_empty() {
             true => self.rng.piece(bytes.len()),
             false => bytes.len(),

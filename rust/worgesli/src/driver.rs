@@ -167,10 +167,15 @@ impl Driver {
         end.or_else(|why| self.hand_over_behind(&why, sink).and(Err(why)))
     }
 
-    /// Gives up: what was gathered is handed over, and the session is closed. Gives the refusal: 23, or 4 where it had ended.
+    /// Gives up: what was gathered is handed over, a region that came whole is closed, and so is the session; nothing more is sent. Gives the
+    /// refusal: 23, or 4 where it had ended.
     pub fn close<S: Sink + ?Sized>(&mut self, sink: &mut S) -> Result<Refusal, Error> {
         self.reopen(sink)?;
         self.hand_over(sink)?;
+        if let (Owed::Close(place), Region::Open) = (self.owed, self.region) {
+            self.close_region(sink, place)?;
+        }
+        self.owed = Owed::Nothing;
         match self.session.closed() {
             Answer::Refused(why) => Ok(why),
             _ => unreachable!("closing is a refusal"),

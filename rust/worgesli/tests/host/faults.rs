@@ -194,6 +194,46 @@ fn gathered_bytes_are_handed_over() {
     assert_eq!((sink.0, sink.1), (16, 1 << 20));
 }
 
+/// Who gives up behind a region's last byte has that region whole, and nothing is sent any more.
+#[test]
+fn given_up() {
+    struct Shy(Record, bool);
+    impl Sink for Shy {
+        fn open(&mut self, place: usize, entry: &Entry) -> io::Result<()> {
+            self.0.open(place, entry)
+        }
+        fn bytes(&mut self, bytes: &[u8]) -> io::Result<usize> {
+            self.0.bytes(bytes)
+        }
+        fn close(&mut self, place: usize) -> Result<(), Unkept> {
+            if std::mem::take(&mut self.1) {
+                return Err(Unkept::Again(ErrorKind::StorageFull.into()));
+            }
+            self.0.close(place)
+        }
+    }
+    let regions = [Region::new("A.BIN", 77, 9000), Region::new("B.BIN", 5, 9)];
+    let w = World { memory: Memory::new(5, 1 << 40, &regions), regions: regions.to_vec(), names: vec![], backend: Backend::Usb };
+    let mut wire = wire(&w, 1, Faults::default());
+    let (mut run, mut sink) = (driver(&w), Shy(Record::default(), true));
+    assert!(matches!(run.run(&mut wire, &mut sink, |_| ()), Err(Error::Sink(_))));
+    assert_eq!(run.close(&mut sink).unwrap().number(), 23);
+    assert_eq!(sink.0 .0, w.kept()[..1]);
+    // a packet that is owed is not sent by a run that is closed
+    let mut silent = wire_that_takes_nothing(&w);
+    let mut run = driver(&w);
+    assert!(matches!(run.run(&mut silent, &mut sink, |_| ()), Err(Error::TimedOut(_))));
+    assert_eq!(run.close(&mut sink).unwrap().number(), 23);
+    silent.faults = Faults::default();
+    assert_eq!(run.run(&mut silent, &mut sink, |_| ()).unwrap_err().number(), Some(4));
+    assert_eq!(silent.device.heard(), []);
+}
+
+/// The device's hello comes, and every write times out.
+fn wire_that_takes_nothing(w: &World) -> Wire {
+    Wire::new(Device::dump(w.memory.clone()), Division::Whole, 1).with(Faults { no_writes: true, ..Faults::default() })
+}
+
 /// Errors say what they are where a `main` returns them, and nothing prints what was fetched.
 #[test]
 fn what_is_printed() {
