@@ -1,11 +1,11 @@
-//! Fetches the memory of a simulated device over a socket pair that divides its bytes at random, into files, and compares the files
-//! with the device's memory. `demo FOLDER [SEED]`; the files go into a new folder in FOLDER.
+//! Fetches the memory of a simulated device over a socket pair that divides its bytes at random, into files, goes on with a saved run in the
+//! middle of it, and compares the files with the device's memory. `demo FOLDER [SEED]`; the files go into a new folder in FOLDER.
 use device::{Device, Memory, Region, Rng, Socket};
 use std::error::Error;
 use std::fs;
 use std::path::{Path, PathBuf};
 use std::time::{Instant, SystemTime};
-use worgesli::{read_manifest, sahara_run, Backend, Folder, Mode, Options, Outcome, State};
+use worgesli::{read_manifest, Backend, Folder, Mode, Options, Outcome, State};
 
 /// The first of run-1, run-2, … that is not there yet.
 fn fresh(folder: &Path) -> std::io::Result<PathBuf> {
@@ -34,6 +34,17 @@ fn regions(rng: &mut Rng) -> Vec<Region> {
     ]
 }
 
+/// Fetches up to the middle of the first region, then saves the run, as before the box is switched off; gives its bytes, and the manifest's path.
+fn begin(options: &Options, host: &mut Socket, folder: &Path) -> Result<(Vec<u8>, PathBuf), Box<dyn Error>> {
+    let (mut run, mut sink) = (options.start()?, Folder::new(folder)?);
+    let mut half = false;
+    while !half {
+        run.step(host, &mut sink, |p| half = p.done >= p.len / 2)?;
+    }
+    sink.checkpoint()?;
+    Ok((run.save(), sink.manifest_path().into()))
+}
+
 fn main() -> Result<(), Box<dyn Error>> {
     let mut args = std::env::args().skip(1);
     let folder = args.next().ok_or("usage: demo FOLDER [SEED]")?;
@@ -49,10 +60,15 @@ fn main() -> Result<(), Box<dyn Error>> {
     let (mut host, far) = Socket::pair()?;
     let far_device = Device::dump(memory.clone());
     let far = std::thread::spawn(move || device::serve(far_device, far, seed));
-    let mut sink = Folder::new(&folder)?;
     let start = Instant::now();
-    let mut reported = 0u64;
-    let outcome = sahara_run(&mut host, &Options::new(Backend::Usb, Mode::MemoryDebug), &mut sink, |_| reported += 1)?;
+    let options = Options::new(Backend::Usb, Mode::MemoryDebug);
+    let (saved, manifest) = begin(&options, &mut host, &folder)?;
+    println!(
+        "in the middle of a region the run was saved, {} bytes, and dropped with its files; another goes on with it",
+        saved.len()
+    );
+    let (mut run, mut sink) = (options.restore(&saved)?, Folder::resume(manifest)?);
+    let outcome = run.run(&mut host, &mut sink, |_| ())?;
     let time = start.elapsed();
     let (reads, short, empty) = (host.reads, host.short, host.empty_reads);
     drop(host);
@@ -63,7 +79,7 @@ fn main() -> Result<(), Box<dyn Error>> {
         "{reads} reads of the socket, {short} gave fewer bytes than asked for; {empty} empty reads; {} ms",
         time.as_millis()
     );
-    println!("{reported} times bytes were handed to the files; {} says:", sink.manifest_path().display());
+    println!("{} says:", sink.manifest_path().display());
 
     let mut wrong = 0;
     for kept in read_manifest(sink.manifest_path())? {

@@ -1,5 +1,6 @@
 //! Where the bytes of regions go.
 use crate::Entry;
+use std::fmt;
 use std::io::{self, ErrorKind};
 
 /// Takes regions, one at a time: an open, its bytes in order, a close. What failed, or panicked, is asked anew when the run goes on.
@@ -20,14 +21,30 @@ pub trait Sink {
     }
 }
 
-/// Why a region could not be closed or reopened.
-#[derive(Debug)]
+/// Why a region could not be closed or reopened. `Debug` says what `Display` says.
 pub enum Unkept {
     /// nothing is lost, and the call is made anew when the run goes on
     Again(io::Error),
     /// what was taken of the region cannot be relied on: it is fetched again from its beginning, with an `open` of its own
     Lost(io::Error),
 }
+
+impl fmt::Display for Unkept {
+    fn fmt(&self, f: &mut fmt::Formatter<'_>) -> fmt::Result {
+        match self {
+            Unkept::Again(e) => write!(f, "a region could not be kept yet: {e}"),
+            Unkept::Lost(e) => write!(f, "a region is lost, and comes again: {e}"),
+        }
+    }
+}
+
+impl fmt::Debug for Unkept {
+    fn fmt(&self, f: &mut fmt::Formatter<'_>) -> fmt::Result {
+        fmt::Display::fmt(self, f)
+    }
+}
+
+impl std::error::Error for Unkept {}
 
 impl From<io::Error> for Unkept {
     fn from(e: io::Error) -> Unkept {
