@@ -1,6 +1,7 @@
 //! The host against the simulated device, and against bad input.
 mod bad_input;
 mod channels;
+mod chaos;
 mod faults;
 mod fetch;
 mod files;
