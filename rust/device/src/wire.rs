@@ -24,6 +24,8 @@ pub struct Faults {
     pub no_writes: bool,
     /// the device hears what is written at the next flush
     pub buffered: bool,
+    /// the byte behind so many is lost on the way
+    pub loses: Option<u64>,
     /// after so many bytes were read the channel is at its end
     pub ends_after: Option<u64>,
     /// after so many bytes were read each read gives this error
@@ -81,6 +83,16 @@ impl Wire {
         Ok(())
     }
 
+    /// The first n bytes without the one that is lost.
+    fn lose(&mut self, to: &mut [u8], n: usize) -> usize {
+        let Some(at) = self.faults.loses.filter(|at| (self.given..self.given + n as u64).contains(at)) else { return n };
+        self.faults.loses = None;
+        let at = (at - self.given) as usize;
+        to.copy_within(at + 1..n, at);
+        self.given += 1;
+        n - 1
+    }
+
     /// The room that a read of n bytes has, by division and faults; 0 at the channel's end.
     fn room(&mut self, n: usize) -> io::Result<usize> {
         let mut n = match self.division {
@@ -115,6 +127,7 @@ impl Read for Wire {
             return Ok(0);
         }
         let n = self.device.say(&mut to[..room]);
+        let n = self.lose(to, n);
         if n == 0 {
             return Err(io::Error::new(ErrorKind::TimedOut, "the device says nothing"));
         }

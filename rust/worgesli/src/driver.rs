@@ -86,6 +86,11 @@ pub struct Driver {
     pub(crate) region: Region,
     /// the place in the table of the region that was opened last
     pub(crate) place: usize,
+    /// of that region, how many bytes were done when the last memory read was sent
+    pub(crate) asked: u64,
+    /// the memory read that the table was asked for with, once it was, and the table's length
+    pub(crate) table_read: Vec<u8>,
+    pub(crate) table_len: usize,
     /// reads, writes and flushes of the channel that succeeded
     moves: u64,
 }
@@ -111,6 +116,9 @@ impl Driver {
             owed: Owed::Nothing,
             region: Region::None,
             place: 0,
+            asked: 0,
+            table_read: Vec::new(),
+            table_len: 0,
             moves: 0,
         }
     }
@@ -120,9 +128,23 @@ impl Driver {
         &self.session
     }
 
-    /// The memory table as it came.
+    /// The memory table, as much of it as came: none before a device offered its memory.
     pub fn table(&self) -> &[u8] {
-        &self.table
+        let len = match self.session.phase() {
+            Phase::Table => self.session.raw().at,
+            _ => self.table_len,
+        };
+        &self.table[..len]
+    }
+
+    /// The entries of the memory table: the device's regions, chosen or not.
+    pub fn entries(&self) -> impl Iterator<Item = Entry> + '_ {
+        (0..).map_while(|i| entry_at(self.table(), i))
+    }
+
+    /// Other names choose the regions from the next step on: for who looks at the table first. A run that is saved is restored with these.
+    pub fn set_names(&mut self, names: NameList) {
+        self.names = names;
     }
 
     /// Runs the session to its end, or to the first error; time-outs are borne as [`Options::timeouts`] says.
@@ -182,6 +204,55 @@ impl Driver {
         }
     }
 
+    /// Begins the last memory read anew, in a dump, from its table on: hears what the device still says until it is silent, forgets it, and asks again from
+    /// where the last chunk, or the table, began. For a channel that lost bytes (a run that times out with bytes outstanding, a cable that was
+    /// pulled), and for a run that was saved some steps before its process died. The channel must time out: silence is the sign. In any other phase it does nothing.
+    pub fn resync<C, S>(&mut self, channel: &mut C, sink: &mut S) -> Result<(), Error>
+    where
+        C: Read + Write + ?Sized,
+        S: Sink + ?Sized,
+    {
+        let phase = self.session.phase();
+        if !matches!(phase, Phase::Table | Phase::Between | Phase::Region) {
+            return Ok(());
+        }
+        // half a packet would spoil the next
+        if let Owed::Send(1.., _) | Owed::Flush = self.owed {
+            self.settle(channel, sink)?;
+        }
+        drain(channel)?;
+        match phase {
+            Phase::Table => self.table_again(),
+            Phase::Region => self.chunk_again(),
+            _ => {}
+        }
+        self.reopen(sink)
+    }
+
+    /// The table is asked for anew.
+    fn table_again(&mut self) {
+        let len = self.table_read.len();
+        self.session = self.session.table_begun();
+        self.out[..len].copy_from_slice(&self.table_read);
+        (self.kept, self.from, self.to, self.owed) = (0, 0, 0, Owed::Send(0, len));
+    }
+
+    /// The last chunk is to be asked for anew: of what came of it nothing is kept, here or by the sink.
+    fn chunk_again(&mut self) {
+        let s = self.session.raw();
+        let begun = if s.outstanding > 0 { self.asked } else { s.done };
+        let handed = s.done - (self.from - self.kept) as u64;
+        self.from = self.kept + begun.saturating_sub(handed) as usize;
+        self.to = self.from;
+        self.session = self.session.region_at(begun);
+        if matches!(self.owed, Owed::Send(..) | Owed::EmptyRead) {
+            self.owed = Owed::Nothing;
+        }
+        if begun < handed && self.region == Region::Open {
+            self.region = Region::Before;
+        }
+    }
+
     /// What is owed, then steps and what each asks for: one, or all to the end.
     fn go<const ONE: bool, C, S, P>(&mut self, channel: &mut C, sink: &mut S, progress: &mut P) -> Result<Option<Outcome>, Error>
     where
@@ -216,7 +287,10 @@ impl Driver {
                 }
                 Answer::Send(k) => {
                     self.owed = Owed::Send(0, k);
-                    self.taken(told.taken);
+                    self.asked = self.session.raw().done;
+                    if told.taken > 0 {
+                        self.answered(k);
+                    }
                     self.send(channel, 0, k)?;
                 }
                 Answer::EmptyRead => {
@@ -249,6 +323,17 @@ impl Driver {
     fn taken(&mut self, taken: usize) {
         if taken > 0 {
             self.kept = self.from;
+        }
+    }
+
+    /// A packet was taken, and the answer to it has k bytes. Where that asks for the table, it is noted.
+    #[cold]
+    fn answered(&mut self, k: usize) {
+        self.kept = self.from;
+        if self.session.phase() == Phase::Table {
+            self.table_read = self.out[..k].to_vec();
+            // refused (17) above that
+            self.table_len = self.session.raw().count.min(TABLE);
         }
     }
 
@@ -503,6 +588,21 @@ fn keeping(mut call: impl FnMut() -> Result<(), Unkept>) -> Result<(), Unkept> {
             done => return done,
         }
     }
+}
+
+/// What a device is let say before it must be silent: more than any answer to a memory read has.
+const MOST: usize = 1 << 20;
+
+/// Hears a channel out.
+fn drain<C: Read + ?Sized>(channel: &mut C) -> Result<(), Error> {
+    let mut heard = 0;
+    while heard < MOST {
+        match again(|| channel.read(&mut [0; 4096])).map_err(Error::channel) {
+            Ok(0) | Err(Error::TimedOut(_)) => return Ok(()),
+            heard_now => heard += heard_now?,
+        }
+    }
+    Err(Error::Channel(io::Error::new(ErrorKind::InvalidData, "the device does not fall silent")))
 }
 
 /// Writes some of the bytes.

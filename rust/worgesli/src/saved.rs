@@ -152,18 +152,18 @@ impl Owed {
     }
 }
 
-/// What the buffers hold: the table's and the reply's declared bytes.
-fn declared(s: &Session) -> (usize, usize) {
+/// The reply's declared bytes.
+fn declared(s: &Session) -> usize {
     match s.phase() {
-        Phase::Table | Phase::Between | Phase::Region => (s.raw().count, 0),
-        Phase::Response | Phase::Switched | Phase::Ended => (0, s.raw().count),
-        Phase::Packet => (0, 0),
+        Phase::Response | Phase::Switched | Phase::Ended => s.raw().count,
+        _ => 0,
     }
 }
 
 impl Driver {
     /// The run as bytes, to be read back by [`Options::restore`]. The channel must not move in between: what this run has read is in the
-    /// bytes, and what it goes on to read is not. A file of them is whole only when it is synced.
+    /// bytes, and what it goes on to read is not. A run that went on behind its last save, and then died, is to be [resynced](Driver::resync) when it is
+    /// restored: else other bytes would be taken for those that it waits for. A file of them is whole only when it is synced.
     pub fn save(&self) -> Vec<u8> {
         let mut to = MAGIC.to_vec();
         put(&mut to, &[VERSION]);
@@ -175,11 +175,11 @@ impl Driver {
             Region::Open | Region::Before => 1,
             Region::Lost => 2,
         };
-        put(&mut to, &[region, self.place as u64]);
-        let (table, reply) = declared(&self.session);
-        put_bytes(&mut to, &self.table[..table.min(TABLE)]);
+        put(&mut to, &[region, self.place as u64, self.asked]);
+        put_bytes(&mut to, &self.table_read);
+        put_bytes(&mut to, &self.table[..self.table_len]);
         put(&mut to, &[self.reply.len() as u64]);
-        put_bytes(&mut to, &self.reply[..reply.min(self.reply.len())]);
+        put_bytes(&mut to, &self.reply[..declared(&self.session).min(self.reply.len())]);
         to.extend(&self.out);
         put_bytes(&mut to, &self.input[self.kept..self.from]);
         put_bytes(&mut to, &self.input[self.from..self.to]);
@@ -225,9 +225,11 @@ fn restored(mut d: Driver, mut from: From) -> Option<Driver> {
         2 => Region::Lost,
         _ => return None,
     };
-    d.place = from.size()?;
+    (d.place, d.asked) = (from.size()?, from.number()?);
+    d.table_read = from.bytes(OUT)?.to_vec();
     let table = from.bytes(TABLE)?;
     d.table[..table.len()].copy_from_slice(table);
+    d.table_len = table.len();
     let room = from.size()?;
     let reply = from.bytes(room)?;
     // no longer than a reply can be declared, so that no length makes us reserve what is not there
@@ -245,7 +247,7 @@ fn restored(mut d: Driver, mut from: From) -> Option<Driver> {
     (from.0.is_empty() && sound(&d)).then_some(d)
 }
 
-/// What is owed fits the buffers and the table, and no more is gathered than came of the open region.
+/// What is owed fits the buffers and the table, the table is the session's, and no more is gathered than came of the open region.
 fn sound(d: &Driver) -> bool {
     let entry = |place| crate::entry_at(&d.table, place).is_some();
     let owed = match d.owed {
@@ -254,8 +256,13 @@ fn sound(d: &Driver) -> bool {
         Owed::Open(place) | Owed::Close(place) => entry(place),
         _ => true,
     };
-    owed && match d.region {
-        Region::None => d.from == 0,
-        _ => entry(d.place) && d.from as u64 <= d.done(),
-    }
+    let table = match d.session.phase() {
+        Phase::Table | Phase::Between | Phase::Region => d.table_len == d.session.raw().count,
+        _ => true,
+    };
+    owed && table
+        && match d.region {
+            Region::None => d.from == 0,
+            _ => entry(d.place) && d.from as u64 <= d.done(),
+        }
 }

@@ -88,6 +88,16 @@ impl Session {
         Session::from_raw(raw::Session { phase, at: place, base, len, done: 0, outstanding: 0, due: 0, ..self.0 })
     }
 
+    /// A session in a region, with so many of its bytes done and none outstanding.
+    pub(crate) fn region_at(&self, done: u64) -> Session {
+        Session(raw::Session { done, outstanding: 0, due: 0, ..self.0 })
+    }
+
+    /// A session whose table is asked for anew: none of it is there, and one memory read more is sent.
+    pub(crate) fn table_begun(&self) -> Session {
+        Session(raw::Session { at: 0, reads: self.0.reads + 1, ..self.0 })
+    }
+
     /// Memory reads since opening.
     pub fn reads(&self) -> u64 {
         self.0.reads

@@ -8,6 +8,7 @@ mod files;
 mod guard;
 mod operations;
 mod panics;
+mod resync;
 mod saved;
 mod steps;
 mod world;

@@ -40,6 +40,37 @@ impl Sink for Record {
     }
 }
 
+/// As [`Record`], of a sink on a disk: a region is cut back when it is reopened, and lost where it is closed or not there; one that is opened anew, with all behind
+/// it in the table, begins anew.
+#[derive(Default)]
+pub struct Cut(pub Record, pub usize);
+
+impl Sink for Cut {
+    fn open(&mut self, place: usize, entry: &Entry) -> io::Result<()> {
+        self.0 .0.retain(|r| r.place < place);
+        self.0.open(place, entry)
+    }
+    fn bytes(&mut self, bytes: &[u8]) -> io::Result<usize> {
+        self.0.bytes(bytes)
+    }
+    fn close(&mut self, place: usize) -> Result<(), Unkept> {
+        self.0.close(place)
+    }
+    fn reopen(&mut self, place: usize, _: &Entry, taken: u64) -> Result<(), Unkept> {
+        self.0 .0.retain(|r| r.place <= place);
+        match self.0 .0.last_mut() {
+            Some(r) if r.place == place && !r.closed && r.bytes.len() as u64 >= taken => {
+                r.bytes.truncate(taken as usize);
+                Ok(())
+            }
+            _ => Err(Unkept::Lost(io::ErrorKind::NotFound.into())),
+        }
+    }
+    fn gathers(&self) -> usize {
+        self.1
+    }
+}
+
 /// A table, and the names that a host asks for.
 pub struct World {
     pub memory: Memory,

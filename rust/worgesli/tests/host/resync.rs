@@ -1,0 +1,170 @@
+//! Channels that lose bytes, and runs that are older than their channel.
+use crate::files::Temporary;
+use crate::world::{world, Cut, Record, World};
+use device::{Device, Division, Faults, Memory, Region, Rng, Wire};
+use std::fs;
+use worgesli::{Backend, Driver, Error, Folder, NameList, Options, Outcome, Phase, Sink, State};
+
+fn two_regions(backend: Backend) -> World {
+    let regions = vec![Region::new("A.BIN", 7, 9000), Region::new("B.BIN", 1 << 20, 4608), Region::new("C.BIN", 5, 0)];
+    World { memory: Memory::new(2, 1 << 40, &regions), regions, names: vec![], backend }
+}
+
+/// Goes on, resyncing where the device is silent; gives how often that was.
+fn run_on(run: &mut Driver, wire: &mut Wire, sink: &mut impl Sink) -> (Outcome, u64) {
+    let mut times = 0;
+    loop {
+        match run.run(wire, sink, |_| ()) {
+            Err(Error::TimedOut(_)) if times < 20 => run.resync(wire, sink).unwrap(),
+            Err(Error::Sink(_)) if times < 20 => {}
+            end => return (end.unwrap(), times),
+        }
+        times += 1;
+    }
+}
+
+/// Any byte of the table or a region is lost on the way: the run times out, and behind a resync every byte is the memory's.
+#[test]
+fn a_byte_is_lost() {
+    let opening = 48 + 24;
+    for backend in [Backend::Serial, Backend::Usb] {
+        let w = two_regions(backend);
+        for at in (opening..opening + 192 + 9000 + 4608).step_by(13) {
+            let faults = Faults { loses: Some(at), ..Faults::default() };
+            let mut wire = Wire::new(Device::dump(w.memory.clone()), Division::Random, at).with(faults);
+            let mut sink = Cut(Record::default(), [0, 2000, 65_536][at as usize % 3]);
+            let mut run = w.options().start().unwrap();
+            let (end, times) = run_on(&mut run, &mut wire, &mut sink);
+            assert_eq!((end, times), (Outcome::Dumped { reads: w.memory_reads() + 1 }, 1), "byte {at}");
+            assert!(sink.0 .0 == w.kept(), "byte {at}");
+            assert_eq!((wire.device.wrong(), wire.device.queued()), (None, 0));
+        }
+    }
+}
+
+/// A run that was saved at any step, while the one that it was saved of went on: resynced, it gives the memory.
+#[test]
+fn an_older_run() {
+    let mut rng = Rng::new(4);
+    for seed in 0..1500 {
+        let w = world(seed);
+        let mut wire = Wire::new(Device::dump(w.memory.clone()), Division::Random, seed);
+        let mut sink = Cut(Record::default(), [0, 3000, 65_536][seed as usize % 3]);
+        let mut run = w.options().start().unwrap();
+        while run.session().phase() == Phase::Packet {
+            run.step(&mut wire, &mut sink, |_| ()).unwrap();
+        }
+        let mut ended = false;
+        let mut steps = |run: &mut Driver, wire: &mut Wire, sink: &mut Cut, most| {
+            for _ in 0..rng.below(most) {
+                ended = ended || run.step(wire, sink, |_| ()).unwrap().is_some();
+            }
+        };
+        steps(&mut run, &mut wire, &mut sink, 40);
+        let saved = run.save();
+        steps(&mut run, &mut wire, &mut sink, 25);
+        if ended {
+            continue;
+        }
+        let mut run = w.options().restore(&saved).unwrap();
+        // what the sink has of the region may be of the later run: it is lost, and comes again
+        if let Err(e) = run.resync(&mut wire, &mut sink) {
+            assert!(matches!(e, Error::Sink(_)), "{e}");
+        }
+        let (end, _) = run_on(&mut run, &mut wire, &mut sink);
+        assert!(matches!(end, Outcome::Dumped { .. }));
+        assert!(sink.0 .0 == w.kept(), "seed {seed}");
+        assert_eq!((wire.device.wrong(), wire.device.queued()), (None, 0), "seed {seed}");
+    }
+}
+
+/// The same with files: whatever the older run finds, what is called whole is the memory's.
+#[test]
+fn an_older_run_into_files() {
+    let w = two_regions(Backend::Usb);
+    let options = w.options();
+    for (first, then) in [(6, 3), (8, 15), (12, 1), (12, 20), (14, 9), (22, 12), (34, 4)] {
+        let t = Temporary::new();
+        let mut wire = Wire::new(Device::dump(w.memory.clone()), Division::AtMost(700), 1);
+        let (mut run, mut sink) = (options.start().unwrap(), Folder::new(t.0.join("dump")).unwrap());
+        for _ in 0..first {
+            assert_eq!(run.step(&mut wire, &mut sink, |_| ()).unwrap(), None);
+        }
+        let saved = run.save();
+        for _ in 0..then {
+            assert_eq!(run.step(&mut wire, &mut sink, |_| ()).unwrap(), None);
+        }
+        let mut sink = Folder::resume(sink.manifest_path()).unwrap();
+        let mut run = options.restore(&saved).unwrap();
+        let _ = run.resync(&mut wire, &mut sink);
+        let (end, _) = run_on(&mut run, &mut wire, &mut sink);
+        assert!(matches!(end, Outcome::Dumped { .. }), "{first} {then}");
+        for (place, r) in w.regions.iter().enumerate() {
+            let whole: Vec<_> = sink.regions().iter().filter(|k| k.place == place && k.state == State::Whole).collect();
+            assert!(!whole.is_empty(), "{first} {then}: region {place}");
+            for kept in whole {
+                let bytes = fs::read(t.0.join("dump").join(&kept.file)).unwrap();
+                assert!(bytes == w.memory.bytes(r.base, r.len as usize), "{first} {then}: {}", kept.file);
+            }
+        }
+    }
+}
+
+/// The table is there as soon as it came, no longer than it is; names chosen by it hold from then on. Outside a dump a resync does nothing.
+#[test]
+fn names_chosen_by_the_table() {
+    let w = two_regions(Backend::Serial);
+    let mut wire = Wire::new(Device::dump(w.memory.clone()), Division::Random, 3);
+    let mut sink = Record::default();
+    let mut run: Driver = w.options().start().unwrap();
+    assert_eq!(run.table(), []);
+    run.resync(&mut wire, &mut sink).unwrap();
+    while run.session().phase() != Phase::Between {
+        assert!(run.table().len() < 192);
+        run.step(&mut wire, &mut sink, |_| ()).unwrap();
+    }
+    assert_eq!(run.table(), w.memory.bytes(1 << 40, 192));
+    assert_eq!(run.entries().map(|e| e.base).collect::<Vec<_>>(), [7, 1 << 20, 5]);
+    let names = NameList::new(&["b"]).unwrap();
+    run.set_names(names.clone());
+    let options = Options::new(Backend::Serial, worgesli::Mode::MemoryDebug).name_list(names);
+    let mut run = options.restore(&run.save()).unwrap();
+    assert_eq!(run.run(&mut wire, &mut sink, |_| ()).unwrap(), Outcome::Dumped { reads: 3 });
+    assert_eq!(sink.0, w.kept()[1..2]);
+    assert_eq!(run.table().len(), 192);
+    assert_eq!(options.restore(&run.save()).unwrap().table(), run.table());
+}
+
+/// A device that is never silent is not heard for ever.
+#[test]
+fn a_device_that_babbles() {
+    struct Babble(Wire, bool);
+    impl std::io::Read for Babble {
+        fn read(&mut self, to: &mut [u8]) -> std::io::Result<usize> {
+            match self.1 {
+                true => Ok(to.len()),
+                false => self.0.read(to),
+            }
+        }
+    }
+    impl std::io::Write for Babble {
+        fn write(&mut self, bytes: &[u8]) -> std::io::Result<usize> {
+            self.0.write(bytes)
+        }
+        fn flush(&mut self) -> std::io::Result<()> {
+            self.0.flush()
+        }
+    }
+    let w = two_regions(Backend::Serial);
+    let mut channel = Babble(Wire::new(Device::dump(w.memory.clone()), Division::Whole, 3), false);
+    let (mut run, mut sink) = (w.options().start().unwrap(), Cut(Record::default(), 0));
+    while run.session().phase() != Phase::Region {
+        run.step(&mut channel, &mut sink, |_| ()).unwrap();
+    }
+    channel.1 = true;
+    assert!(matches!(run.resync(&mut channel, &mut sink), Err(Error::Channel(_))));
+    channel.1 = false;
+    run.resync(&mut channel, &mut sink).unwrap();
+    run.run(&mut channel, &mut sink, |_| ()).unwrap();
+    assert!(sink.0 .0 == w.kept());
+}
