@@ -176,9 +176,16 @@ static void end_region(void)
         stop(f.name, "such a file has come meanwhile");
     if (renameat(f.folder, f.part, f.folder, f.name) < 0)
         stop(f.name, NULL);
+    int n;
+    while ((n = fsync(f.folder)) < 0 && errno == EINTR)
+        ;
+    if (n < 0) { /* the name may be gone with the power: it is no whole region's */
+        const int why = errno;
+        renameat(f.folder, f.name, f.folder, f.part);
+        stop(f.name, strerror(why));
+    }
     close(f.file);
     f.file = -1;
-    to_disk(f.folder, f.name);
     f.whole++;
     printf("%s: %" PRIu64 " bytes\n", f.name, f.len);
 }
@@ -243,6 +250,16 @@ static void fetch(uint32_t backend, const uint8_t *names, size_t names_len)
 
 /* ---- what is opened first */
 
+/* Descriptors 0 to 2 are taken, by nothing if need be: else a port or a file would get one, and what is said to people. */
+static void take_standard(void)
+{
+    int fd;
+    while ((fd = open("/dev/null", O_RDWR)) >= 0 && fd <= 2)
+        ;
+    if (fd > 2)
+        close(fd);
+}
+
 static void open_port(const char *port)
 {
     const bool number = strspn(port, "0123456789") == strlen(port) && strlen(port) < 9;
@@ -277,8 +294,9 @@ int main(int argc, char **argv)
     bool wrong = false;
     for (int option; (option = getopt(argc, argv, "ut:")) != -1;) {
         backend = option == 'u' ? WORGESLI_BACKEND_USB : backend;
-        f.wait_ms = option == 't' ? atoi(optarg) : f.wait_ms;
-        wrong |= option == '?' || f.wait_ms <= 0;
+        const size_t digits = option == 't' ? strspn(optarg, "0123456789") : 0;
+        f.wait_ms = digits > 0 ? atoi(optarg) : f.wait_ms;
+        wrong |= option == '?' || (option == 't' && (digits == 0 || digits > 8 || optarg[digits] != 0 || f.wait_ms == 0));
     }
     worgesli_slot slots[WORGESLI_SLOTS];
     static uint8_t names[1 << 20];
@@ -290,6 +308,7 @@ int main(int argc, char **argv)
         fprintf(stderr, "usage: fetch [-u] [-t MS] PORT FOLDER [NAME...], at most %d names\n", WORGESLI_SLOTS);
         return 2;
     }
+    take_standard();
     signal(SIGPIPE, SIG_IGN); /* a port that is gone, a file that is too long: the calls say so */
     signal(SIGXFSZ, SIG_IGN);
     open_port(argv[optind]);

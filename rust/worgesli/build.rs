@@ -4,7 +4,12 @@ use std::{env, path::PathBuf};
 const NAME: &str = "WORGESLI_ARCHIVE_DIR";
 
 fn main() {
-    let folder = env::var_os(NAME).map(PathBuf::from).unwrap_or_else(|| {
+    let named = env::var_os(NAME).filter(|folder| !folder.is_empty()).map(PathBuf::from);
+    if named.as_ref().is_some_and(|folder| folder.is_relative()) {
+        println!("cargo::error={NAME} must be an absolute path: a build script does not know from where cargo was called");
+        return;
+    }
+    let folder = named.unwrap_or_else(|| {
         let here = PathBuf::from(env::var_os("CARGO_MANIFEST_DIR").unwrap());
         here.join("../../target/staticlib")
     });

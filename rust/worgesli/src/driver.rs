@@ -22,7 +22,7 @@ pub enum Outcome {
     Reset,
     /// finished (3): the regions were dumped
     Dumped {
-        /// memory reads that were sent
+        /// memory reads that were sent: one for the table, one for each chunk; 1 where no region was chosen
         reads: u64,
     },
     /// finished (4): the response to the command

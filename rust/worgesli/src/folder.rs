@@ -59,7 +59,8 @@ impl Folder {
     /// The folder is made if it is not there, and those above it too. A new manifest is made, which shows at once whether the folder can
     /// be written and synced. What an earlier fetch left there stays as it is.
     pub fn new(folder: impl AsRef<Path>) -> io::Result<Folder> {
-        Folder::on(Arc::new(System), folder.as_ref())
+        let folder = folder.as_ref();
+        Folder::on(Arc::new(System), folder).map_err(|e| io::Error::new(e.kind(), format!("{}: {e}", folder.display())))
     }
 
     fn on(disk: Arc<dyn Disk>, path: &Path) -> io::Result<Folder> {

@@ -22,9 +22,11 @@ impl Serial {
     /// Opens a tty. `speed` is in bits a second, one that the system knows (115,200, 921,600, …; a USB device takes any). A read or a
     /// write that waits longer than `timeout` is `TimedOut`.
     pub fn open(path: impl AsRef<Path>, speed: u32, timeout: Duration) -> io::Result<Serial> {
+        let path = path.as_ref();
         let flags = tty::O_NOCTTY | tty::O_NONBLOCK;
-        let line = OpenOptions::new().read(true).write(true).custom_flags(flags).open(path)?;
-        tty::make_raw(line.as_fd(), speed)?;
+        let opened = OpenOptions::new().read(true).write(true).custom_flags(flags).open(path);
+        let raw = opened.and_then(|line| tty::make_raw(line.as_fd(), speed).map(|()| line));
+        let line = raw.map_err(|e| io::Error::new(e.kind(), format!("{}: {e}", path.display())))?;
         Ok(Serial { line, timeout })
     }
 

@@ -488,10 +488,9 @@ fn calls_that_fail() {
             }
             said.failed(says);
             failed += 1;
-            // it has its name when its bytes are on the disk, and is called whole when the name is too
-            let (named, called) =
-                if name == "fsync" { ((n - 1) / 2, (n - 1).saturating_sub(1) / 2) } else { (whole as u64, whole as u64) };
-            assert_eq!(whole as u64, named, "{call:?} {said:?}");
+            // it has its name, and is called whole, when its bytes and its name are on the disk
+            let called = if name == "fsync" { (n - 1).saturating_sub(1) / 2 } else { whole as u64 };
+            assert_eq!(whole as u64, called, "{call:?} {said:?}");
             assert!(said.error.contains(&format!("whole regions: {called}\n")), "{call:?} {said:?}");
         }
         assert!(calls.map_or(failed > 3, |calls| failed == calls), "{name}: {failed}");
@@ -677,4 +676,30 @@ fn bundles() {
     let said = child.wait_with_output().unwrap();
     writer.join().unwrap().unwrap();
     assert!(said.status.success() && said.stdout == expected);
+}
+
+/// With standard input, output and error closed, no descriptor of the program's own gets one of their numbers: what it says to people reaches neither a file nor the
+/// device.
+#[test]
+fn without_standard_descriptors() {
+    if builds().is_empty() {
+        return;
+    }
+    let regions = [Region::new("TAKE.BIN", 0, 50_000)];
+    let memory = memory(7, &regions);
+    for (left, code) in [(u64::MAX, 0), (48 + 24 + 64 + 30_000, 1)] {
+        let temporary = Temporary::new();
+        let (near, far) = UnixStream::pair().unwrap();
+        let device = Device::dump(memory.clone());
+        let device = thread::spawn(move || serve_until(device, far, 1, left).unwrap().0);
+        let line = "exec \"$0\" -t 100 7 \"$1\" 7<&0 <&- >&- 2>&-";
+        let mut call = Command::new("sh");
+        call.args(["-c", line]).arg(example(Build::Plain).unwrap()).arg(temporary.dump()).stdin(OwnedFd::from(near));
+        assert_eq!(call.status().unwrap().code(), Some(code));
+        // its end of the socket too
+        drop(call);
+        assert_eq!(device.join().unwrap().wrong(), None);
+        let (file, len) = if code == 0 { ("TAKE.BIN", 50_000) } else { ("TAKE.BIN.part", 30_000) };
+        assert!(fs::read(temporary.dump().join(file)).unwrap() == memory.bytes(0, len), "{file}");
+    }
 }
