@@ -4,7 +4,7 @@ use mathlib.Core.Path.{_≡_, refl, sym, ap, _∙_}
 use mathlib.Core.Bool.{Bool, true, false, _||_, true≢false}
 use mathlib.Core.List.{List, [], _∷_}
 use Prim.Native.Nat.{ℕ, _+_, _^_}
-use borrow.Author.Tests.{eq-eqb, ne-eqb, eqb-true}
+use borrow.Author.Tests.{eq-eqb, eqb-true}
 use lib.Dec.{ltb, leb, eqb}
 use lib.ListN.{length, getD, replicate}
 use Rattle.base.specs.Choice.{pick}
@@ -25,7 +25,7 @@ use Rattle.region_phase.specs.declared.Advance.the-variants as D
 use Rattle.region_phase.specs.Advance.{Advanced, advanced, advanceWithin, advanceOf, onAdvance}
 use Rattle.region_phase.proofs.Laws.{advance-is}
 use Rattle.host.specs.Host.{phaseStep}
-use Rattle.waiting.specs.Wanted.{regionWants, wantedIn}
+use Rattle.waiting.specs.Wanted.{wantedIn}
 use Rattle.raw.specs.declared.RawSession.{RawSession}
 use Rattle.raw.specs.Raw.{openingOf, isOpening, regionIn, phaseOf, noRegion, isPhase, rawOf, sessionOf, isSession, toldOf, steppedAt, rawStepped}
 use Rattle.raw.proofs.Laws.{raw-back}
@@ -102,15 +102,9 @@ module _ (h n w : List ℕ) (e : inRegion h n ≡ true) where
       region-session r (d .1) five (d .0)
 
   -- what is wanted there
-  wanted-at : regionWants (regionAt n) ≡ wantedRaw r
+  pub wanted-at : waitsAt n ≡ wantedRaw r
   unfolding sessionOf
   wanted-at = ap (wantedIn w) (sym (phase-region r five)) ∙ wanted-is r is-session
-
-  pub wanted-due : getD n 7 0 ≡ 1 → 0 ≡ wantedRaw r
-  wanted-due d = ap (λ (b : Bool). pick b 0 (getD n 6 0)) (sym (eq-eqb (getD n 7 0) 1 d)) ∙ wanted-at
-
-  pub wanted-rest : (getD n 7 0 ≡ 1 → ⊥) → getD n 6 0 ≡ wantedRaw r
-  wanted-rest d = ap (λ (b : Bool). pick b 0 (getD n 6 0)) (sym (ne-eqb (getD n 7 0) 1 d)) ∙ wanted-at
 
   -- ---- a delivery, image set, names, table, reply and out buffers
   module _ (d set names t y o : List ℕ) (f : wellFormed true set ≡ true) (g : wellFormed false names ≡ true) where

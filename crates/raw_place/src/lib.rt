@@ -15,6 +15,7 @@ use raw_step::COMMAND;
 use raw_step::COUNT;
 use raw_step::DONE;
 use raw_step::DUE;
+use raw_step::IS_DUE;
 use raw_step::LEN;
 use raw_step::MODE;
 use raw_step::OUTSTANDING;
@@ -79,7 +80,7 @@ fn region_at(numbers: &[u64; 8]) -> Region
         len: numbers[LEN],
         done: numbers[DONE],
         outstanding: numbers[OUTSTANDING],
-        due: numbers[DUE] == 1,
+        due: numbers[DUE] == IS_DUE,
     }
 }
 
@@ -110,7 +111,7 @@ fn ready(head: &[u32; 4], numbers: &[u64; 8], set: &[u8], names: &[u8]) -> bool
 fn waits_at(numbers: &[u64; 8]) -> u64
     ensures { λ r. ⌜ r ≡ waitsAt (now (numbers .entry)) ⌝ }
 {
-    if numbers[DUE] == 1 {
+    if numbers[DUE] == IS_DUE {
         0
     } else {
         numbers[OUTSTANDING]
@@ -207,10 +208,7 @@ pub fn wanted_in_place(head: &[u32; 4], numbers: &[u64; 8], window: &[u8; 48]) -
 {
     if head[PHASE] == REGION {
         if in_region(head, numbers) {
-            if numbers[DUE] == 1 {
-                return 0;
-            }
-            return numbers[OUTSTANDING] as usize;
+            return waits_at(numbers) as usize;
         }
         return 0;
     }

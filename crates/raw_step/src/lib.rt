@@ -40,6 +40,9 @@ pub const OUTSTANDING: usize = 6;
 
 pub const DUE: usize = 7;
 
+// What stands at DUE where an empty read is due; 0 where none is.
+pub const IS_DUE: u64 = 1;
+
 // The number of the phase in a region.
 pub const REGION: u32 = 5;
 
