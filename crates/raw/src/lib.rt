@@ -75,12 +75,13 @@ pub struct RawStepped {
     pub answer: u32,
 }
 
-// What is told of a step beside the session.
+// What is told of a step beside the session. In this order no two numbers that the structs above and below hold side by side are side by side here: they
+// would be copied as one, which stalls the processor just after they were stored as two.
 pub struct RawTold {
-    pub taken: usize,
     pub first: u64,
-    pub second: u64,
     pub answer: u32,
+    pub taken: usize,
+    pub second: u64,
 }
 
 // What a step in place gives: what is told, and in a region the bytes that the next step waits for.

@@ -1,28 +1,31 @@
 -- A region's step on its numbers in place is the step's own (`counts-are`, `waits-are`): the numbers are a session's in a region, so that the step is
 -- `regionStep`, which is the step over the counts put into the session. Assumes nothing.
 use mathlib.Core.Path.{_≡_, refl, sym, ap, _∙_}
-use mathlib.Core.Bool.{Bool, true, false, true≢false}
+use mathlib.Core.Bool.{Bool, true, false, _||_, true≢false}
 use mathlib.Core.List.{List, [], _∷_}
-use Prim.Native.Nat.{ℕ}
-use borrow.Author.Tests.{eq-eqb, ne-eqb, eqb-true}
-use lib.Dec.{ltb, eqb}
+use Prim.Native.Nat.{ℕ, _+_, _^_}
+use borrow.Author.Tests.{eq-eqb, eqb-true}
+use lib.Dec.{ltb, leb, eqb}
 use lib.ListN.{length, getD, replicate}
 use Rattle.base.specs.Choice.{pick}
 use Rattle.base.proofs.Ranges.{by-test, by-then, either}
-use Rattle.bundle.specs.Bundle.{wellFormed}
+use Rattle.field.specs.Field.{le}
+use Rattle.bundle.specs.Bundle.{slotsGood, wellFormed}
 use Rattle.command.specs.Command.{modeOf, commandOf}
+use Rattle.verdict.specs.declared.Opening.{Opening}
 use Rattle.session.specs.declared.Region.{Region}
 use Rattle.session.specs.declared.Phase.the-variants as P
 use Rattle.session.specs.declared.Session.{Session}
 use Rattle.session.specs.declared.Answer.the-variants as A
 use Rattle.session.specs.declared.Counted.{Counted}
 use Rattle.session.specs.Outcome.{Outcome, reading}
+use Rattle.session.specs.Limits.{regionLimit}
 use Rattle.region_phase.specs.declared.Advance.{Advance}
 use Rattle.region_phase.specs.declared.Advance.the-variants as D
 use Rattle.region_phase.specs.Advance.{Advanced, advanced, advanceWithin, advanceOf, onAdvance}
 use Rattle.region_phase.proofs.Laws.{advance-is}
 use Rattle.host.specs.Host.{phaseStep}
-use Rattle.waiting.specs.Wanted.{regionWants, wantedIn}
+use Rattle.waiting.specs.Wanted.{wantedIn}
 use Rattle.raw.specs.declared.RawSession.{RawSession}
 use Rattle.raw.specs.Raw.{openingOf, isOpening, regionIn, phaseOf, noRegion, isPhase, rawOf, sessionOf, isSession, toldOf, steppedAt, rawStepped}
 use Rattle.raw.proofs.Laws.{raw-back}
@@ -43,6 +46,10 @@ region-session : (r : RawSession) → isOpening (r .mode) (r .command) (r .backe
 unfolding isSession isPhase
 region-session r u p d = rw (u, p) d
 
+empty-formed : (gaps : Bool) → wellFormed gaps (replicate 8 0) ≡ true
+unfolding wellFormed slotsGood le
+empty-formed gaps = refl
+
 -- numbers with a region's phase that are no session's want nothing
 pub wanted-none : (h n w : List ℕ) → getD h 3 0 ≡ 5 → inRegion h n ≡ false → 0 ≡ wantedRaw (rawAt h n w)
 unfolding wantedRaw isSession isPhase
@@ -51,6 +58,34 @@ wanted-none h n w p e =
     (λ o.
     by-test (ltb (getD n 7 0) 2) (λ d. absurd (true≢false (rw (eq-eqb (getD h 3 0) 5 p, d, o) at e))) (λ d. rw (o, p, d) refl))
     (λ o. rw o refl)
+
+-- ---- what a region's step keeps of it
+
+abbrev place : Region → List ℕ
+place x = x .entry ∷ x .base ∷ x .len ∷ []
+
+abbrev come-by : Region → Advance → Region
+come-by x (D.To c) = c .region
+come-by x D.Waits = x
+come-by x (D.Refused why) = x
+come-by x D.Begins = x
+come-by x D.Closes = x
+
+module _ (u : Opening) (m : ℕ) (x : Region) (came : ℕ) (o : List ℕ) where
+  kept-within : place (come-by x (advanceWithin u m x came o .advance)) ≡ place x
+  unfolding advanceWithin
+  kept-within =
+      by-test (x .due) (λ e. rw e refl)
+      (λ e. by-test (eqb (x .outstanding) 0)
+      (λ z. by-test (eqb (x .done) 0) (λ b. rw (e, z, b) refl)
+      (λ b. by-test (leb (x .len) (x .done)) (λ l. rw (e, z, b, l) refl) (λ l. rw (e, z, b, l) refl)))
+      (λ z. by-test (eqb came 0) (λ b. rw (e, z, b) refl) (λ b. rw (e, z, b) refl)))
+
+  kept : (k : ℕ) (t : List ℕ) → place (come-by x (advanceOf u m k x came t o .advance)) ≡ place x
+  unfolding advanceOf
+  kept k t =
+      by-test (ltb (length o) 48) (λ e. rw e refl)
+      (λ e. by-test (ltb (2 ^ 63 + 1) m || regionLimit 8 k x t) (λ l. rw (e, l) refl) (λ l. rw (e, l) kept-within))
 
 -- the session in place
 module _ (h n w : List ℕ) (e : inRegion h n ≡ true) where
@@ -67,15 +102,9 @@ module _ (h n w : List ℕ) (e : inRegion h n ≡ true) where
       region-session r (d .1) five (d .0)
 
   -- what is wanted there
-  wanted-at : regionWants (regionAt n) ≡ wantedRaw r
+  pub wanted-at : waitsAt n ≡ wantedRaw r
   unfolding sessionOf
   wanted-at = ap (wantedIn w) (sym (phase-region r five)) ∙ wanted-is r is-session
-
-  pub wanted-due : getD n 7 0 ≡ 1 → 0 ≡ wantedRaw r
-  wanted-due d = ap (λ (b : Bool). pick b 0 (getD n 6 0)) (sym (eq-eqb (getD n 7 0) 1 d)) ∙ wanted-at
-
-  pub wanted-rest : (getD n 7 0 ≡ 1 → ⊥) → getD n 6 0 ≡ wantedRaw r
-  wanted-rest d = ap (λ (b : Bool). pick b 0 (getD n 6 0)) (sym (ne-eqb (getD n 7 0) 1 d)) ∙ wanted-at
 
   -- ---- a delivery, image set, names, table, reply and out buffers
   module _ (d set names t y o : List ℕ) (f : wellFormed true set ≡ true) (g : wellFormed false names ≡ true) where
@@ -97,18 +126,28 @@ module _ (h n w : List ℕ) (e : inRegion h n ≡ true) where
         ∙ step-formed r d set names t y o f g is-session
 
     -- the session's numbers with what the step counts
-    raw-counted : (c : Counted) → rawOf (reading s (c .reads) (P.Region (r .count) (c .region))) ≡ rawAt h (countedAt n c) w
+    raw-counted : (c : Counted) → place (c .region) ≡ place x
+        → rawOf (reading s (c .reads) (P.Region (r .count) (c .region))) ≡ rawAt h (countedAt n c) w
     unfolding rawOf sessionOf
-    raw-counted c =
+    raw-counted c k =
         let b = raw-back r is-session in
-        rw (ap (λ (z : RawSession). z .mode) b, ap (λ (z : RawSession). z .command) b, ap (λ (z : RawSession). z .backend) b, five) refl
+        rw (
+          ap (λ (z : RawSession). z .mode) b,
+          ap (λ (z : RawSession). z .command) b,
+          ap (λ (z : RawSession). z .backend) b,
+          five,
+          ap (λ (z : List ℕ). getD z 0 0) k,
+          ap (λ (z : List ℕ). getD z 1 0) k,
+          ap (λ (z : List ℕ). getD z 2 0) k,
+        ) refl
 
     pub counts-are : (c : Counted) (p : List ℕ)
         → advanced (D.To c) p ≡ advanceOf (openingOf (getD h 0 0) (getD h 1 0) (getD h 2 0)) (getD n 0 0) (getD n 1 0) x (length d) t o
         → rawOutcome (steppedAt (rawAt h (countedAt n c) w) (toldOf (c .taken) (c .answer))) t y p ≡ stepRaw r d set names t y o
     unfolding rawStepped
     counts-are c p q =
-        ap (λ (z : RawSession). rawOutcome (steppedAt z (toldOf (c .taken) (c .answer))) t y p) (sym (raw-counted c)) ∙ put-is (advanced (D.To c) p) q
+        let k : place (c .region) ≡ place x = ap (λ (a : Advanced). place (come-by x (a .advance))) q ∙ kept _ _ x _ o _ t in
+        ap (λ (z : RawSession). rawOutcome (steppedAt z (toldOf (c .taken) (c .answer))) t y p) (sym (raw-counted c k)) ∙ put-is (advanced (D.To c) p) q
 
     pub waits-are : (p : List ℕ)
         → advanced D.Waits p ≡ advanceOf (openingOf (getD h 0 0) (getD h 1 0) (getD h 2 0)) (getD n 0 0) (getD n 1 0) x (length d) t o
@@ -116,6 +155,13 @@ module _ (h n w : List ℕ) (e : inRegion h n ≡ true) where
     unfolding rawStepped
     waits-are p q =
         ap (λ (z : RawSession). rawOutcome (steppedAt z (toldOf 0 A.Go)) t y p) (sym (raw-back r is-session)) ∙ put-is (advanced D.Waits p) q
+
+  -- no step there looks at the image set or the names: lent empty ones, it is the same
+  pub lent-empty : (d set names t y o : List ℕ) → wellFormed true set ≡ true → wellFormed false names ≡ true
+      → stepRaw r d (replicate 8 0) (replicate 8 0) t y o ≡ stepRaw r d set names t y o
+  lent-empty d set names t y o f g =
+      let a = advanceOf (openingOf (getD h 0 0) (getD h 1 0) (getD h 2 0)) (getD n 0 0) (getD n 1 0) (regionAt n) (length d) t o in
+      sym (put-is d (replicate 8 0) (replicate 8 0) t y o (empty-formed true) (empty-formed false) a refl) ∙ put-is d set names t y o f g a refl
 
 -- ---- the premises can be met: a dump over USB with a chunk of the region done; nothing outstanding, bytes outstanding, an empty read due; and no byte came
 abbrev counts : Advance → Bool

@@ -24,8 +24,8 @@ readyAt h n set names = pick (inRegion h n) (pick (wellFormed true set) (wellFor
 abbrev pub regionAt : List ℕ → Region
 regionAt n = region (getD n 2 0) (getD n 3 0) (getD n 4 0) (getD n 5 0) (getD n 6 0) (eqb (getD n 7 0) 1)
 
--- the large numbers with what a step counts; the second, the table's length, stays
+-- the large numbers with what a step counts; the table's length and the region's entry, base and length stay
 abbrev pub countedAt : List ℕ → Counted → List ℕ
 countedAt n c =
     let x = c .region in
-    c .reads ∷ getD n 1 0 ∷ x .entry ∷ x .base ∷ x .len ∷ x .done ∷ x .outstanding ∷ pick (x .due) 1 0 ∷ []
+    c .reads ∷ getD n 1 0 ∷ getD n 2 0 ∷ getD n 3 0 ∷ getD n 4 0 ∷ x .done ∷ x .outstanding ∷ pick (x .due) 1 0 ∷ []

@@ -8,6 +8,20 @@ use raw::RawSession;
 use raw::RawTold;
 use raw::bit;
 use raw::told;
+use raw_step::AT;
+use raw_step::BACKEND;
+use raw_step::BASE;
+use raw_step::COMMAND;
+use raw_step::COUNT;
+use raw_step::DONE;
+use raw_step::DUE;
+use raw_step::IS_DUE;
+use raw_step::LEN;
+use raw_step::MODE;
+use raw_step::OUTSTANDING;
+use raw_step::PHASE;
+use raw_step::READS;
+use raw_step::REGION;
 use region_phase::Advance;
 use region_phase::advance_region;
 use session::Answer;
@@ -21,48 +35,22 @@ ghost use Rattle.raw.specs.Raw.{toldOf, steppedAt, toldIn};
 ghost use Rattle.raw_step.specs.RawStep.{rawOutcome, stepRaw, rawAt, waitsAt, wantedRaw};
 ghost use Rattle.raw_place.specs.Place.{inRegion, readyAt, regionAt, countedAt};
 
-// A session in place: head has its mode, command, backend and phase; numbers its memory reads, count, place, base, length, bytes done and outstanding, and
-// whether an empty read is due.
-const MODE: usize = 0;
-
-const COMMAND: usize = 1;
-
-const BACKEND: usize = 2;
-
-const PHASE: usize = 3;
-
-const READS: usize = 0;
-
-const COUNT: usize = 1;
-
-const AT: usize = 2;
-
-const BASE: usize = 3;
-
-const LEN: usize = 4;
-
-const DONE: usize = 5;
-
-const OUTSTANDING: usize = 6;
-
-const DUE: usize = 7;
-
-// The number of the phase in a region.
-const REGION: u32 = 5;
-
-// The numbers of a region's step, and what is told.
+// The numbers of a region's step, and what is told. Those that stay are given back as they are, which the compiler leaves out.
 fn count(numbers: &mut [u64; 8], c: Counted) -> RawTold
     ensures { λ r. ⌜ (r ≡ toldOf (c .taken) (c .answer)) × (now (numbers .exit) ≡ countedAt (now (numbers .entry)) c) ⌝ }
 {
     let x = c.region;
     let answer = c.answer;
     let count = numbers[COUNT];
+    let at = numbers[AT];
+    let base = numbers[BASE];
+    let len = numbers[LEN];
     *numbers = [
         c.reads,
         count,
-        x.entry as u64,
-        x.base,
-        x.len,
+        at,
+        base,
+        len,
         x.done,
         x.outstanding,
         bit(x.due),
@@ -92,7 +80,7 @@ fn region_at(numbers: &[u64; 8]) -> Region
         len: numbers[LEN],
         done: numbers[DONE],
         outstanding: numbers[OUTSTANDING],
-        due: numbers[DUE] == 1,
+        due: numbers[DUE] == IS_DUE,
     }
 }
 
@@ -119,71 +107,32 @@ fn ready(head: &[u32; 4], numbers: &[u64; 8], set: &[u8], names: &[u8]) -> bool
     false
 }
 
-// A step of a session in place. In a region, what neither begins nor closes it changes only its numbers.
-fn step_at(
-    head: &mut [u32; 4],
-    numbers: &mut [u64; 8],
-    window: &mut [u8; 48],
-    delivery: &[u8],
-    set: &[u8],
-    names: &[u8],
-    table: &mut [u8],
-    reply: &mut [u8],
-    out: &mut [u8],
-) -> RawTold
-    ensures { λ r. ⌜ rawOutcome (steppedAt (rawAt (now (head .exit)) (now (numbers .exit)) (now (window .exit))) r)
-        (now (table .exit)) (now (reply .exit)) (now (out .exit))
-        ≡ stepRaw (rawAt (now (head .entry)) (now (numbers .entry)) (now (window .entry)))
-        (now (delivery .entry)) (now (set .entry)) (now (names .entry)) (now (table .entry)) (now (reply .entry)) (now (out .entry)) ⌝ }
-{
-    if !ready(head, numbers, set, names) {
-        return raw_step::step(
-            head,
-            numbers,
-            window,
-            delivery,
-            set,
-            names,
-            table,
-            reply,
-            out,
-        );
-    }
-    let x = region_at(numbers);
-    let opening = raw::opening_of(head[MODE], head[COMMAND], head[BACKEND]);
-    let k = numbers[COUNT] as usize;
-    let a = advance_region(opening, numbers[READS], k, x, delivery.len(), table, out);
-    if let Advance::To(c) = a {
-        return count(numbers, c);
-    }
-    if let Advance::Waits = a {
-        return told(0, Answer::Go);
-    }
-    raw_step::phase_step(
-        head,
-        numbers,
-        window,
-        delivery,
-        set,
-        names,
-        table,
-        reply,
-        out,
-    )
-}
-
 // The bytes that are outstanding and wait for no empty read.
 fn waits_at(numbers: &[u64; 8]) -> u64
     ensures { λ r. ⌜ r ≡ waitsAt (now (numbers .entry)) ⌝ }
 {
-    if numbers[DUE] == 1 {
+    if numbers[DUE] == IS_DUE {
         0
     } else {
         numbers[OUTSTANDING]
     }
 }
 
-// A step with the session in place: mode, command, backend and phase; reads, count, at, base, len, done, outstanding and due; the window.
+// What a step told, and the bytes that the next one waits for.
+fn placed(t: RawTold, numbers: &[u64; 8]) -> RawPlaced
+    ensures { λ r. ⌜ (toldIn r ≡ t) × (r .waits ≡ waitsAt (now (numbers .entry))) ⌝ }
+{
+    RawPlaced {
+        taken: t.taken,
+        first: t.first,
+        second: t.second,
+        answer: t.answer,
+        waits: waits_at(numbers),
+    }
+}
+
+// A step with the session in place: mode, command, backend and phase; reads, count, at, base, len, done, outstanding and due; the window. In a region, what
+// neither begins nor closes it changes only its numbers.
 pub fn step_in_place(
     head: &mut [u32; 4],
     numbers: &mut [u64; 8],
@@ -201,24 +150,46 @@ pub fn step_in_place(
         (now (delivery .entry)) (now (set .entry)) (now (names .entry)) (now (table .entry)) (now (reply .entry)) (now (out .entry)))
         × (r .waits ≡ waitsAt (now (numbers .exit))) ⌝ }
 {
-    let t = step_at(
+    if !ready(head, numbers, set, names) {
+        let t = raw_step::step(
+            head,
+            numbers,
+            window,
+            delivery,
+            set,
+            names,
+            table,
+            reply,
+            out,
+        );
+        return placed(t, numbers);
+    }
+    let x = region_at(numbers);
+    let opening = raw::opening_of(head[MODE], head[COMMAND], head[BACKEND]);
+    let k = numbers[COUNT] as usize;
+    let a = advance_region(opening, numbers[READS], k, x, delivery.len(), table, out);
+    if let Advance::To(c) = a {
+        let t = count(numbers, c);
+        return placed(t, numbers);
+    }
+    if let Advance::Waits = a {
+        let t = told(0, Answer::Go);
+        return placed(t, numbers);
+    }
+    // in a region no step looks at the image set and the names, and these were judged: empty ones are judged faster than they would be again
+    let empty = [0u8; 8];
+    let t = raw_step::step(
         head,
         numbers,
         window,
         delivery,
-        set,
-        names,
+        &empty,
+        &empty,
         table,
         reply,
         out,
     );
-    RawPlaced {
-        taken: t.taken,
-        first: t.first,
-        second: t.second,
-        answer: t.answer,
-        waits: waits_at(numbers),
-    }
+    placed(t, numbers)
 }
 
 // How many bytes the next step asks for: 0 where it needs none.
@@ -237,10 +208,7 @@ pub fn wanted_in_place(head: &[u32; 4], numbers: &[u64; 8], window: &[u8; 48]) -
 {
     if head[PHASE] == REGION {
         if in_region(head, numbers) {
-            if numbers[DUE] == 1 {
-                return 0;
-            }
-            return numbers[OUTSTANDING] as usize;
+            return waits_at(numbers) as usize;
         }
         return 0;
     }

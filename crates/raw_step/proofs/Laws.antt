@@ -19,7 +19,7 @@ use Rattle.raw.specs.declared.RawSession.{RawSession}
 use Rattle.raw.specs.declared.RawStepped.{RawStepped}
 use Rattle.raw.specs.Raw.{rawOf, phaseOf, sessionOf, isSession, rawStepped, refusedRaw}
 use Rattle.raw.proofs.Laws.{session-back, session-is, refused-told}
-use Rattle.raw_step.specs.RawStep.{rawOutcome, rawOutcomeOf, noSession, phaseRaw, stepRaw, closedRaw, wantedRaw}
+use Rattle.raw_step.specs.RawStep.{rawOutcome, rawOutcomeOf, noSession, stepRaw, closedRaw, wantedRaw}
 
 -- the phase of the session that numbers are read as
 phase-read : (r : RawSession) → sessionOf r .phase ≡ phaseOf r
@@ -43,24 +43,16 @@ module _ (r : RawSession) (d set names t y o : List ℕ) where
       (λ e. ap (λ (x : RawStepped). rawOutcome x t y o) (refused-told r why e) ∙ ap rawOutcomeOf (sym h) ∙ step-is e)
       (λ e. ap (λ (k : ℕ). rawOutcome (refusedRaw r k) t y o) (sym n) ∙ step-no e)
 
-  -- the image set is malformed, the names are, neither is
+  -- the image set is malformed, the names are
   pub step-images : wellFormed true set ≡ false → rawOutcome (refusedRaw r 1) t y o ≡ stepRaw r d set names t y o
   step-images f = refused-both 1 (step-1 (sessionOf r) d set names t y o f) (rw f refl)
 
   pub step-names : wellFormed true set ≡ true → wellFormed false names ≡ false → rawOutcome (refusedRaw r 2) t y o ≡ stepRaw r d set names t y o
   step-names f g = refused-both 2 (step-2 (sessionOf r) d set names t y o f g) (rw (f, g) refl)
 
-  -- behind them
-  pub phase-none : isSession r ≡ false → rawOutcome (refusedRaw r (pick (ltb (length o) 48) 3 18)) t y o ≡ phaseRaw r d set names t y o
-  unfolding phaseRaw
-  phase-none e = rw e refl
-
-  pub phase-some : isSession r ≡ true → rawOutcomeOf (phaseStep (sessionOf r) d set names t y o (phaseOf r)) ≡ phaseRaw r d set names t y o
-  unfolding phaseRaw
-  phase-some e = rw e refl
-
+  -- behind them, of no session and of a session
   module _ (f : wellFormed true set ≡ true) (g : wellFormed false names ≡ true) where
-    step-none : isSession r ≡ false → rawOutcome (refusedRaw r (pick (ltb (length o) 48) 3 18)) t y o ≡ stepRaw r d set names t y o
+    pub step-none : isSession r ≡ false → rawOutcome (refusedRaw r (pick (ltb (length o) 48) 3 18)) t y o ≡ stepRaw r d set names t y o
     step-none e =
         let n : noSession set names o ≡ pick (ltb (length o) 48) 3 18 = rw (f, g) refl in
         ap (λ (k : ℕ). rawOutcome (refusedRaw r k) t y o) (sym n) ∙ step-no e
@@ -70,9 +62,6 @@ module _ (r : RawSession) (d set names t y o : List ℕ) where
         ap (λ (p : Phase). rawOutcomeOf (phaseStep (sessionOf r) d set names t y o p)) (sym (phase-read r))
         ∙ ap rawOutcomeOf (sym (step-phase (sessionOf r) d set names t y o f g))
         ∙ step-is e
-
-    pub phase-formed : phaseRaw r d set names t y o ≡ stepRaw r d set names t y o
-    phase-formed = by-test (isSession r) (λ e. sym (phase-some e) ∙ step-formed e) (λ e. sym (phase-none e) ∙ step-none e)
 
 pub closed-no : (r : RawSession) → isSession r ≡ false → refusedRaw r 18 ≡ closedRaw r
 unfolding closedRaw

@@ -10,11 +10,10 @@ use Rattle.base.specs.Choice.{pick}
 use Rattle.bundle.specs.Bundle.{wellFormed}
 use Rattle.session.specs.Outcome.{Outcome}
 use Rattle.session.specs.Step.{stepOf, closedOf}
-use Rattle.host.specs.Host.{phaseStep}
 use Rattle.waiting.specs.Wanted.{wantedOf}
 use Rattle.raw.specs.declared.RawSession.{RawSession}
 use Rattle.raw.specs.declared.RawStepped.{RawStepped}
-use Rattle.raw.specs.Raw.{phaseOf, sessionOf, isSession, rawStepped, refusedRaw}
+use Rattle.raw.specs.Raw.{sessionOf, isSession, rawStepped, refusedRaw}
 
 -- a step's whole outcome, as numbers
 pub record RawOutcome : Type 0 where
@@ -33,13 +32,7 @@ rawOutcomeOf x = rawOutcome (rawStepped (x .stepped)) (x .table) (x .reply) (x .
 abbrev pub noSession : List ℕ → List ℕ → List ℕ → ℕ
 noSession set names o = pick (not (wellFormed true set)) 1 (pick (not (wellFormed false names)) 2 (pick (ltb (length o) 48) 3 18))
 
--- what stands behind 1 and 2: session, delivery, image set, names, table, reply and out buffers
-unfoldable pub phaseRaw : RawSession → List ℕ → List ℕ → List ℕ → List ℕ → List ℕ → List ℕ → RawOutcome
-phaseRaw r d set names t y o =
-    pick (isSession r) (rawOutcomeOf (phaseStep (sessionOf r) d set names t y o (phaseOf r)))
-    (rawOutcome (refusedRaw r (pick (ltb (length o) 48) 3 18)) t y o)
-
--- the whole step
+-- the step: session, delivery, image set, names, table, reply and out buffers
 unfoldable pub stepRaw : RawSession → List ℕ → List ℕ → List ℕ → List ℕ → List ℕ → List ℕ → RawOutcome
 stepRaw r d set names t y o =
     pick (isSession r) (rawOutcomeOf (stepOf (sessionOf r) d set names t y o)) (rawOutcome (refusedRaw r (noSession set names o)) t y o)

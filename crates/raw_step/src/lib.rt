@@ -12,33 +12,39 @@ ghost use lib.Dec.{ltb};
 ghost use lib.ListN.{length};
 ghost use Rattle.base.specs.Choice.{pick};
 ghost use Rattle.raw.specs.Raw.{steppedAt};
-ghost use Rattle.raw_step.specs.RawStep.{rawOutcome, stepRaw, phaseRaw, rawAt};
+ghost use Rattle.raw_step.specs.RawStep.{rawOutcome, stepRaw, rawAt};
 
 // A session in place: head has its mode, command, backend and phase; numbers its memory reads, count, place, base, length, bytes done and outstanding, and
 // whether an empty read is due.
-const MODE: usize = 0;
+pub const MODE: usize = 0;
 
-const COMMAND: usize = 1;
+pub const COMMAND: usize = 1;
 
-const BACKEND: usize = 2;
+pub const BACKEND: usize = 2;
 
-const PHASE: usize = 3;
+pub const PHASE: usize = 3;
 
-const READS: usize = 0;
+pub const READS: usize = 0;
 
-const COUNT: usize = 1;
+pub const COUNT: usize = 1;
 
-const AT: usize = 2;
+pub const AT: usize = 2;
 
-const BASE: usize = 3;
+pub const BASE: usize = 3;
 
-const LEN: usize = 4;
+pub const LEN: usize = 4;
 
-const DONE: usize = 5;
+pub const DONE: usize = 5;
 
-const OUTSTANDING: usize = 6;
+pub const OUTSTANDING: usize = 6;
 
-const DUE: usize = 7;
+pub const DUE: usize = 7;
+
+// What stands at DUE where an empty read is due; 0 where none is.
+pub const IS_DUE: u64 = 1;
+
+// The number of the phase in a region.
+pub const REGION: u32 = 5;
 
 // The numbers of a session in place.
 pub fn raw_at(head: &[u32; 4], numbers: &[u64; 8], window: &[u8; 48]) -> RawSession
@@ -100,35 +106,7 @@ fn no_session(out: &[u8]) -> u8
     if out.len() < 48 { 3 } else { 18 }
 }
 
-// A step of a session in place, behind 1 and 2, which its caller has judged.
-pub fn phase_step(
-    head: &mut [u32; 4],
-    numbers: &mut [u64; 8],
-    window: &mut [u8; 48],
-    delivery: &[u8],
-    set: &[u8],
-    names: &[u8],
-    table: &mut [u8],
-    reply: &mut [u8],
-    out: &mut [u8],
-) -> RawTold
-    ensures { λ r. ⌜ rawOutcome (steppedAt (rawAt (now (head .exit)) (now (numbers .exit)) (now (window .exit))) r)
-        (now (table .exit)) (now (reply .exit)) (now (out .exit))
-        ≡ phaseRaw (rawAt (now (head .entry)) (now (numbers .entry)) (now (window .entry)))
-        (now (delivery .entry)) (now (set .entry)) (now (names .entry)) (now (table .entry)) (now (reply .entry)) (now (out .entry)) ⌝ }
-{
-    let s = raw_at(head, numbers, window);
-    if !raw::is_session(s) {
-        return told(0, Answer::Refused(no_session(out)));
-    }
-    // the phase is made of the numbers: copied out of the session, its tag would stall the processor
-    let session = raw::session_of(s);
-    let p = raw::phase_of(s);
-    let t = host::phase_step(session, p, delivery, set, names, table, reply, out);
-    put_back(raw::raw_stepped(t), head, numbers, window)
-}
-
-// A step of a session in place.
+// A step of a session in place. Its numbers are read before 1 and 2 are judged, so that these have the registers, and told of behind them.
 pub fn step(
     head: &mut [u32; 4],
     numbers: &mut [u64; 8],
@@ -145,21 +123,20 @@ pub fn step(
         ≡ stepRaw (rawAt (now (head .entry)) (now (numbers .entry)) (now (window .entry)))
         (now (delivery .entry)) (now (set .entry)) (now (names .entry)) (now (table .entry)) (now (reply .entry)) (now (out .entry)) ⌝ }
 {
+    let s = raw_at(head, numbers, window);
+    let is_session = raw::is_session(s);
     let Checked::Good = check_images(set) else {
         return told(0, Answer::Refused(1));
     };
     let Checked::Good = check_names(names) else {
         return told(0, Answer::Refused(2));
     };
-    phase_step(
-        head,
-        numbers,
-        window,
-        delivery,
-        set,
-        names,
-        table,
-        reply,
-        out,
-    )
+    if !is_session {
+        return told(0, Answer::Refused(no_session(out)));
+    }
+    // the phase is made of the numbers: copied out of the session, its tag would stall the processor
+    let session = raw::session_of(s);
+    let p = raw::phase_of(s);
+    let t = host::phase_step(session, p, delivery, set, names, table, reply, out);
+    put_back(raw::raw_stepped(t), head, numbers, window)
 }

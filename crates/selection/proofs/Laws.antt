@@ -1,24 +1,24 @@
 -- Laws of selection: one turn of the search over the names and over a stem's bytes, and what the next selected entry is.
 use mathlib.Core.Path.{_≡_, refl, sym, ap, _∙_}
-use mathlib.Core.Bool.{Bool, true, false, not}
+use mathlib.Core.Bool.{Bool, true, false}
 use mathlib.Core.List.{List, [], _∷_, map}
 use Prim.Native.Nat.{ℕ, zero, suc, _+_, _*_, _-_, _/_, _<_, _≤_}
 use native.Mathlib.Omega.{arith}
 use native.Mathlib.Numerals.{add-one}
 use native.Mathlib.Nat.{add-suc, suc-add, mul-le-mul-left, le-trans, le-refl, sub-zero}
-use borrow.Author.Tests.{eqb-true, eqb-false, eq-eqb, ne-eqb, le-ltb}
+use borrow.Author.Tests.{eqb-true, eqb-false, le-ltb, ltb-false}
 use lib.Dec.{eqb}
 use lib.ListN.{length, take, drop, getD, length-map, length-take, length-drop, drop-of-length-le}
 use lib.Seq.{drop-cons}
 use Rattle.base.specs.Choice.{pick}
 use Rattle.base.proofs.Ranges.{by-test, either}
 use Rattle.bundle.proofs.Laws.{slot-within}
-use Rattle.bundle.specs.Bundle.{slotOf, countOf}
+use Rattle.bundle.specs.Bundle.{slotOf}
 use Rattle.bundle.specs.declared.Slot.the-variants.{At}
-use Rattle.filename.specs.Filename.{stemOf}
-use Rattle.entry.specs.Entry.{entrySize, entryOf, there, preferenceOf, filenameOf}
-use Rattle.entry.proofs.Laws.{there-below, there-take, entryOf-take}
-use Rattle.selection.specs.Selection.{low, withName, namesFrom, same, member, named, selected, selectedAt, nextOf}
+use Rattle.entry.specs.Entry.{entrySize, there, entryAt}
+use Rattle.entry.specs.declared.EntryAt.{EntryAt}
+use Rattle.entry.proofs.Laws.{entry-there, entry-flag, there-below, there-take, entryOf-take}
+use Rattle.selection.specs.Selection.{low, withName, namesFrom, same, member, selectedBy, selected, selectedAt, nextOf}
 
 -- byte strings of different lengths are not the same
 pub same-length : (xs ys : List ℕ) → (length xs ≡ length ys → ⊥) → same xs ys ≡ false
@@ -84,17 +84,18 @@ named-unequal b n stem i start size h e d =
 pub selected-missing : (f : ℕ) (names t : List ℕ) (i : ℕ) → there f t i ≡ false → selectedAt f names t i ≡ false
 selected-missing f names t i h = rw h refl
 
--- with no names, one of nonzero preference
-pub selected-preferred : (f : ℕ) (names t : List ℕ) (i : ℕ) → there f t i ≡ true → countOf names ≡ 0
-    → selectedAt f names t i ≡ not (eqb (preferenceOf f (entryOf f t i)) 0)
+-- one that is there, by what is told of it
+pub selected-told : (f : ℕ) (names t : List ℕ) (i : ℕ) (r : EntryAt) → r ≡ entryAt f t i → r .there ≡ true
+    → selectedBy names (r .entry .«save_pref») (r .entry .filename) ≡ selectedAt f names t i
 unfolding selected
-selected-preferred f names t i h z = rw (h, eq-eqb (countOf names) 0 z) refl
+selected-told f names t i r e h =
+    let w : there f t i ≡ true = sym (entry-flag f t i) ∙ sym (ap (λ (x : EntryAt). x .there) e) ∙ h in
+    ap (λ (x : EntryAt). selectedBy names (x .entry .«save_pref») (x .entry .filename)) (e ∙ entry-there f t i w) ∙ rw w refl
 
--- else one whose stem is a name
-pub selected-named : (f : ℕ) (names t : List ℕ) (i : ℕ) → there f t i ≡ true → (countOf names ≡ 0 → ⊥)
-    → selectedAt f names t i ≡ named names (stemOf (filenameOf f (entryOf f t i)))
-unfolding selected
-selected-named f names t i h z = rw (h, ne-eqb (countOf names) 0 z) refl
+-- one that is told not to be there lies behind the table's end
+pub beyond-told : (f : ℕ) (t : List ℕ) (i : ℕ) (r : EntryAt) → r ≡ entryAt f t i → r .there ≡ false → length t / entrySize f ≤ i
+beyond-told f t i r e h =
+    ltb-false i (length t / entrySize f) (sym (there-below f t i) ∙ sym (entry-flag f t i) ∙ sym (ap (λ (x : EntryAt). x .there) e) ∙ h)
 
 -- an entry that is selected is the next selected one
 pub next-here : (f : ℕ) (names t : List ℕ) (k i : ℕ) → selectedAt f names t i ≡ true → nextOf f names t (suc k) i ≡ i

@@ -45,9 +45,13 @@ member s (n ∷ ns) = pick (same s n) true (member s ns)
 abbrev pub named : List ℕ → List ℕ → Bool
 named names stem = member (map low stem) (map (map low) (namesOf names))
 
+-- what selects an entry: with no names its preference, else its filename's stem
+abbrev pub selectedBy : List ℕ → ℕ → List ℕ → Bool
+selectedBy names preference filename = pick (eqb (countOf names) 0) (not (eqb preference 0)) (named names (stemOf filename))
+
 -- an entry's bytes are selected
 unfoldable pub selected : ℕ → List ℕ → List ℕ → Bool
-selected f names e = pick (eqb (countOf names) 0) (not (eqb (preferenceOf f e) 0)) (named names (stemOf (filenameOf f e)))
+selected f names e = selectedBy names (preferenceOf f e) (filenameOf f e)
 
 -- entry i of a table is there and selected
 abbrev pub selectedAt : ℕ → List ℕ → List ℕ → ℕ → Bool

@@ -2,13 +2,14 @@
 use bundle::Slot;
 use bundle::SlotNumber;
 use bundle::slot_at;
+use entry::RamdumpTable64;
 use entry::entry_at;
 use field::u32_padded;
 use filename::stem_len;
 ghost use mathlib.Core.Path.{_≡_};
 ghost use mathlib.Core.List.{map};
 ghost use Prim.Native.Nat.{_-_};
-ghost use Rattle.selection.specs.Selection.{low, namesFrom, member, selectedAt, nextOf};
+ghost use Rattle.selection.specs.Selection.{low, namesFrom, member, selectedBy, selectedAt, nextOf};
 
 // A letter of A..Z lowered; any other byte is itself.
 pub fn lower(b: u8) -> u8
@@ -55,6 +56,19 @@ fn named(names: &[u8], n: usize, stem: &[u8]) -> bool
     found
 }
 
+// Whether names select an entry: none by its preference, else by its stem.
+fn selects(names: &[u8], entry: RamdumpTable64) -> bool
+    ensures { λ r. ⌜ r ≡ selectedBy (now (names .entry)) (entry .«save_pref») (entry .filename) ⌝ }
+{
+    let n = u32_padded(names, 0) as usize;
+    if n == 0 {
+        return entry.save_pref != 0;
+    }
+    let filename = entry.filename;
+    let size = stem_len(&filename);
+    named(names, n, &filename[..size])
+}
+
 // Whether entry i of a table is there and selected.
 pub fn is_selected(table: &[u8], i: usize, names: &[u8]) -> bool
     ensures { λ r. ⌜ r ≡ selectedAt 8 (now (names .entry)) (now (table .entry)) i ⌝ }
@@ -65,13 +79,7 @@ pub fn is_selected(table: &[u8], i: usize, names: &[u8]) -> bool
         return false;
     }
     let entry = e.entry;
-    let n = u32_padded(names, 0) as usize;
-    if n == 0 {
-        return entry.save_pref != 0;
-    }
-    let filename = entry.filename;
-    let size = stem_len(&filename);
-    named(names, n, &filename[..size])
+    selects(names, entry)
 }
 
 // The first selected entry from `from` on and before `entries`; `entries` where there is none (`from` where it is not below `entries`). The search ends
@@ -81,10 +89,13 @@ pub fn next_selected(table: &[u8], entries: usize, names: &[u8], from: usize) ->
 {
     let mut i = from;
     while i < entries {
-        if table.len() / 64 <= i {
+        let e = entry_at(table, i);
+        let there = e.there;
+        if !there {
             return entries;
         }
-        if is_selected(table, i, names) {
+        let entry = e.entry;
+        if selects(names, entry) {
             return i;
         }
         i += 1;

@@ -6,6 +6,15 @@ use Rattle.raw_place.proofs.count.Tie as tie
 element-copy-out-count : tie.Need-element-copy-out-count
 element-copy-out-count c = search needs
 
+element-copy-out-at : tie.Need-element-copy-out-at
+element-copy-out-at c = search needs
+
+element-copy-out-base : tie.Need-element-copy-out-base
+element-copy-out-base c = search needs
+
+element-copy-out-len : tie.Need-element-copy-out-len
+element-copy-out-len c = search needs
+
 bit-requires : tie.Need-bit-requires
 bit-requires c κs = search needs
 
@@ -16,4 +25,13 @@ returns : tie.Need-returns
 returns c = (c .told .ensures, simp (c .before .before .bit .ensures))
 
 pub count-spec : {M : Type 1} → statement M
-count-spec = tie.close (tie.spec element-copy-out-count bit-requires told-requires returns)
+count-spec =
+    tie.close
+    (tie.spec
+    element-copy-out-count
+    element-copy-out-at
+    element-copy-out-base
+    element-copy-out-len
+    bit-requires
+    told-requires
+    returns)

@@ -1,13 +1,8 @@
 -- `raw_place::wanted_in_place` meets its contract: in a region by its numbers, else what is read is the session in place. Assumes nothing.
 use mathlib.Core.Path.{_≡_, sym, ap, _∙_}
-use mathlib.Core.Bool.{true, false}
-use native.Mathlib.Omega.{arith}
-use Prim.Native.Nat.{ℕ}
 use denote.Ref.{now}
-use lib.ListN.{getD}
 use Rattle.raw_step.specs.RawStep.{wantedRaw}
-use Rattle.raw_place.specs.Place.{inRegion}
-use Rattle.raw_place.proofs.Repeats.{wanted-none, wanted-due, wanted-rest}
+use Rattle.raw_place.proofs.Repeats.{wanted-none, wanted-at}
 use borrow.Author.Needs.{needs}
 use Rattle.raw_place.proofs.wanted_in_place.Statement.{statement}
 use Rattle.raw_place.proofs.wanted_in_place.Tie as tie
@@ -22,29 +17,18 @@ element-copy-out-if1 c = search needs
 in-region-requires : tie.Need-in-region-requires
 in-region-requires c κs = search needs
 
-element-copy-out-if3 : tie.Need-element-copy-out-if3
-element-copy-out-if3 c = search needs
+waits-at-requires : tie.Need-waits-at-requires
+waits-at-requires c κs = search needs
 
 returns : tie.Need-returns
 returns c =
-    let g = c .before .before in
+    let g = c .before in
     let i = g .before in
     let a = begun i .args in
-    wanted-due (now (a .head)) (now (a .numbers)) (now (a .window)) (sym (i .in-region .ensures) ∙ g .if2 .taken) (c .if3 .taken)
-
-element-copy-out-result : tie.Need-element-copy-out-result
-element-copy-out-result c = search needs
+    c .waits-at .ensures ∙ wanted-at (now (a .head)) (now (a .numbers)) (now (a .window)) (sym (i .in-region .ensures) ∙ g .if2 .taken)
 
 returns-2 : tie.Need-returns-2
 returns-2 c =
-    let e = c .before in
-    let g = e .before .before in
-    let i = g .before in
-    let a = begun i .args in
-    wanted-rest (now (a .head)) (now (a .numbers)) (now (a .window)) (sym (i .in-region .ensures) ∙ g .if2 .taken) (e .if3 .left)
-
-returns-3 : tie.Need-returns-3
-returns-3 c =
     let i = c .before in
     let a = begun i .args in
     wanted-none (now (a .head)) (now (a .numbers)) (now (a .window)) (i .before .if1 .taken) (sym (i .in-region .ensures) ∙ c .if2 .left)
@@ -55,8 +39,8 @@ raw-at-requires c κs = search needs
 wanted-requires : tie.Need-wanted-requires
 wanted-requires c κs = search needs
 
-returns-4 : tie.Need-returns-4
-returns-4 c = c .wanted .ensures ∙ ap wantedRaw (c .before .raw-at .ensures)
+returns-3 : tie.Need-returns-3
+returns-3 c = c .wanted .ensures ∙ ap wantedRaw (c .before .raw-at .ensures)
 
 pub wanted-in-place-spec : {M : Type 1} → statement M
 wanted-in-place-spec =
@@ -64,11 +48,9 @@ wanted-in-place-spec =
     (tie.spec
     element-copy-out-if1
     in-region-requires
-    element-copy-out-if3
+    waits-at-requires
     returns
-    element-copy-out-result
     returns-2
-    returns-3
     raw-at-requires
     wanted-requires
-    returns-4)
+    returns-3)

@@ -1,4 +1,5 @@
--- `raw_place::step_at` meets its contract: in a region by `counts-are` and `waits-are`; else it is `raw_step::step`, or behind its checks `raw_step::phase_step`. Assumes nothing.
+-- `raw_place::step_in_place` meets its contract: in a region by `counts-are` and `waits-are`; else it is `raw_step::step`, lent empty bundles where it
+-- looks at none (`lent-empty`). Assumes nothing.
 use mathlib.Core.Path.{_≡_, refl, sym, ap, _∙_}
 use mathlib.Core.Bool.{true, false}
 use mathlib.Core.List.{List, [], _∷_}
@@ -20,11 +21,10 @@ use Rattle.raw.specs.declared.RawTold.{RawTold}
 use Rattle.raw.specs.Raw.{openingOf, toldOf, steppedAt}
 use Rattle.raw_step.specs.RawStep.{rawOutcome, rawAt, stepRaw}
 use Rattle.raw_place.specs.Place.{inRegion, regionAt}
-use Rattle.raw_step.proofs.Laws.{phase-formed}
-use Rattle.raw_place.proofs.Repeats.{no, counts-are, waits-are}
+use Rattle.raw_place.proofs.Repeats.{no, counts-are, waits-are, lent-empty}
 use borrow.Author.Needs.{needs}
-use Rattle.raw_place.proofs.step_at.Statement.{statement}
-use Rattle.raw_place.proofs.step_at.Tie as tie
+use Rattle.raw_place.proofs.step_in_place.Statement.{statement}
+use Rattle.raw_place.proofs.step_in_place.Tie as tie
 
 -- where the function begins, and the out buffer, from behind the step over the counts
 abbrev begun : tie.After-advance-region → tie.Start
@@ -69,6 +69,9 @@ ready-requires c κs = tt
 step-requires : tie.Need-step-requires
 step-requires c κs = tt
 
+placed-requires : tie.Need-placed-requires
+placed-requires c κs = tt
+
 same-length : tie.Need-same-length
 same-length c = search needs
 
@@ -79,7 +82,14 @@ same-length-3 : tie.Need-same-length-3
 same-length-3 c = search needs
 
 returns : tie.Need-returns
-returns c = c .before .before .before .before .before .before .step .ensures
+returns c =
+    let s = c .before .before .before .before .before .before .before .before in
+    let l = s .step .last in
+    let b = l .1 .1 .1 .1 .1 .1 in (
+      ap (λ (z : RawTold). rawOutcome (steppedAt (rawAt (l .0) (l .1 .0) (l .1 .1 .0)) z) (b .0) (b .1 .0) (b .1 .1 .0)) (c .placed .ensures .0)
+          ∙ s .step .ensures,
+      c .placed .ensures .1,
+    )
 
 region-at-requires : tie.Need-region-at-requires
 region-at-requires c κs = tt
@@ -111,6 +121,9 @@ enum-known-a c = search needs
 count-requires : tie.Need-count-requires
 count-requires c κs = tt
 
+placed-requires-2 : tie.Need-placed-requires-2
+placed-requires-2 c κs = tt
+
 same-length-4 : tie.Need-same-length-4
 same-length-4 c = search needs
 
@@ -119,24 +132,30 @@ same-length-5 c = search needs
 
 returns-2 : tie.Need-returns-2
 returns-2 c =
-    let g = c .before .before .before .before .before .before .before in
+    let m = c .before .before in
+    let g = m .before .before .before .before .before .before .before in
     let a = begun g .args in
-    let k : Counted = c .before .before .before .a .given .0 .0 in
-    let r = in-region g in
-    ap (λ (z : RawTold). rawOutcome (steppedAt (rawAt (now (a .head)) (c .count .last .0) (now (a .window))) z) (now (a .table)) (now (a .reply)) (after g))
-    (c .count .ensures .0)
-    ∙ ap (λ (z : List ℕ). rawOutcome (steppedAt (rawAt (now (a .head)) z (now (a .window))) (toldOf (k .taken) (k .answer)))
-    (now (a .table)) (now (a .reply)) (after g))
-    (c .count .ensures .1)
-    ∙ counts-are (now (a .head)) (now (a .numbers)) (now (a .window)) (r .0)
-    (now (a .delivery)) (now (a .set)) (now (a .names)) (now (a .table)) (now (a .reply)) (now (a .out)) (r .1 .0) (r .1 .1)
-    k (after g) (come-to g (D.To k) (c .before .before .before .a .given .1))
+    let k : Counted = m .before .before .before .a .given .0 .0 in
+    let r = in-region g in (
+      ap (λ (z : RawTold). rawOutcome (steppedAt (rawAt (now (a .head)) (m .count .last .0) (now (a .window))) z) (now (a .table)) (now (a .reply)) (after g))
+          (c .placed2 .ensures .0 ∙ m .count .ensures .0)
+          ∙ ap (λ (z : List ℕ). rawOutcome (steppedAt (rawAt (now (a .head)) z (now (a .window))) (toldOf (k .taken) (k .answer)))
+          (now (a .table)) (now (a .reply)) (after g))
+          (m .count .ensures .1)
+          ∙ counts-are (now (a .head)) (now (a .numbers)) (now (a .window)) (r .0)
+          (now (a .delivery)) (now (a .set)) (now (a .names)) (now (a .table)) (now (a .reply)) (now (a .out)) (r .1 .0) (r .1 .1)
+          k (after g) (come-to g (D.To k) (m .before .before .before .a .given .1)),
+      c .placed2 .ensures .1,
+    )
 
 enum-told : tie.Need-enum-told
 enum-told c = search needs
 
 told-requires : tie.Need-told-requires
 told-requires c κs = tt
+
+placed-requires-3 : tie.Need-placed-requires-3
+placed-requires-3 c κs = tt
 
 same-length-6 : tie.Need-same-length-6
 same-length-6 c = search needs
@@ -146,17 +165,29 @@ same-length-7 c = search needs
 
 returns-3 : tie.Need-returns-3
 returns-3 c =
-    let g = c .before .before .before .before .before .before in
+    let m = c .before .before in
+    let g = m .before .before .before .before .before .before in
     let a = begun g .args in
-    let r = in-region g in
-    ap (λ (z : RawTold). rawOutcome (steppedAt (rawAt (now (a .head)) (now (a .numbers)) (now (a .window))) z) (now (a .table)) (now (a .reply)) (after g))
-    (c .told .ensures)
-    ∙ waits-are (now (a .head)) (now (a .numbers)) (now (a .window)) (r .0)
-    (now (a .delivery)) (now (a .set)) (now (a .names)) (now (a .table)) (now (a .reply)) (now (a .out)) (r .1 .0) (r .1 .1)
-    (after g) (come-to g D.Waits (c .before .enum-told .given .1))
+    let r = in-region g in (
+      ap (λ (z : RawTold). rawOutcome (steppedAt (rawAt (now (a .head)) (now (a .numbers)) (now (a .window))) z) (now (a .table)) (now (a .reply)) (after g))
+          (c .placed3 .ensures .0 ∙ m .told .ensures)
+          ∙ waits-are (now (a .head)) (now (a .numbers)) (now (a .window)) (r .0)
+          (now (a .delivery)) (now (a .set)) (now (a .names)) (now (a .table)) (now (a .reply)) (now (a .out)) (r .1 .0) (r .1 .1)
+          (after g) (come-to g D.Waits (m .before .enum-told .given .1)),
+      c .placed3 .ensures .1,
+    )
 
-phase-step-requires : tie.Need-phase-step-requires
-phase-step-requires c κs = tt
+slice-aggregate-step : tie.Need-slice-aggregate-step
+slice-aggregate-step c = search needs
+
+slice-aggregate-step-2 : tie.Need-slice-aggregate-step-2
+slice-aggregate-step-2 c = search needs
+
+step-requires-2 : tie.Need-step-requires-2
+step-requires-2 c κs = tt
+
+placed-requires-4 : tie.Need-placed-requires-4
+placed-requires-4 c κs = tt
 
 same-length-8 : tie.Need-same-length-8
 same-length-8 c = search needs
@@ -169,27 +200,35 @@ same-length-10 c = search needs
 
 returns-4 : tie.Need-returns-4
 returns-4 c =
-    let e = c .before .before .before .before .before .before .before .before .before .before .before .before .before .before in
+    let s = c .before .before .before .before .before .before .before .before in
+    let e = s .before .before .before .before .before .before .before .before .before .before in
     let g = e .before .before .before in
     let a = begun g .args in
     let n = now (a .numbers) in
     let h = now (a .head) in
+    let w = now (a .window) in
     let v : Advance = g .advance-region .result in
     let still : (k : Counted) → v ≡ D.To k → ⊥ = λ k q. miss (0 ∷ 1 ∷ 3 ∷ 4 ∷ []) 2 tt (rw q at (e .match .keys2)) in
     let o : after g ≡ now (a .out) =
     advance-still (openingOf (getD h 0 0) (getD h 1 0) (getD h 2 0)) (getD n 0 0) (regionAt n) (length (now (a .delivery))) (now (a .out)) still
     (getD n 1 0) (now (a .table)) (sym (come-to g v refl)) in
-    let r = in-region g .1 in
-    c .before .before .before .before .before .before .phase-step .ensures
-    ∙ phase-formed (rawAt h n (now (a .window))) (now (a .delivery)) (now (a .set)) (now (a .names)) (now (a .table)) (now (a .reply)) (after g) (r .0) (r .1)
-    ∙ ap (stepRaw (rawAt h n (now (a .window))) (now (a .delivery)) (now (a .set)) (now (a .names)) (now (a .table)) (now (a .reply))) o
+    let r = in-region g in
+    let l = s .step2 .last in
+    let b = l .1 .1 .1 .1 .1 .1 in (
+      ap (λ (z : RawTold). rawOutcome (steppedAt (rawAt (l .0) (l .1 .0) (l .1 .1 .0)) z) (b .0) (b .1 .0) (b .1 .1 .0)) (c .placed4 .ensures .0)
+          ∙ s .step2 .ensures
+          ∙ lent-empty h n w (r .0) (now (a .delivery)) (now (a .set)) (now (a .names)) (now (a .table)) (now (a .reply)) (after g) (r .1 .0) (r .1 .1)
+          ∙ ap (stepRaw (rawAt h n w) (now (a .delivery)) (now (a .set)) (now (a .names)) (now (a .table)) (now (a .reply))) o,
+      c .placed4 .ensures .1,
+    )
 
-pub step-at-spec : {M : Type 1} → statement M
-step-at-spec =
+pub step-in-place-spec : {M : Type 1} → statement M
+step-in-place-spec =
     tie.close
     (tie.spec
     ready-requires
     step-requires
+    placed-requires
     same-length
     same-length-2
     same-length-3
@@ -204,15 +243,20 @@ step-at-spec =
     advance-region-requires
     enum-known-a
     count-requires
+    placed-requires-2
     same-length-4
     same-length-5
     returns-2
     enum-told
     told-requires
+    placed-requires-3
     same-length-6
     same-length-7
     returns-3
-    phase-step-requires
+    slice-aggregate-step
+    slice-aggregate-step-2
+    step-requires-2
+    placed-requires-4
     same-length-8
     same-length-9
     same-length-10
