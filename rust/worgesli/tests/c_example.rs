@@ -565,8 +565,16 @@ fn wrong_calls() {
     for build in builds() {
         let temporary = Temporary::new();
         let names = vec!["n"; 65];
-        let usage =
-            [&["0"][..], &[], &["-x", "0", "dump"], &["-t", "0", "0", "dump"], &["-t"], &[&["0", "dump"], &names[..]].concat()];
+        let usage = [
+            &["0"][..],
+            &[],
+            &["-x", "0", "dump"],
+            &["-t", "0", "0", "dump"],
+            &["-t", "5x", "0", "dump"],
+            &["-t", "999999999", "0", "dump"],
+            &["-t"],
+            &[&["0", "dump"], &names[..]].concat(),
+        ];
         for args in usage {
             let call = Command::new(example(build).unwrap()).args(args).current_dir(&temporary.0).output().unwrap();
             assert_eq!(call.status.code(), Some(2), "{args:?}");
@@ -692,7 +700,7 @@ fn without_standard_descriptors() {
         let (near, far) = UnixStream::pair().unwrap();
         let device = Device::dump(memory.clone());
         let device = thread::spawn(move || serve_until(device, far, 1, left).unwrap().0);
-        let line = "exec \"$0\" -t 100 7 \"$1\" 7<&0 <&- >&- 2>&-";
+        let line = "exec \"$0\" -t 2000 7 \"$1\" 7<&0 <&- >&- 2>&-";
         let mut call = Command::new("sh");
         call.args(["-c", line]).arg(example(Build::Plain).unwrap()).arg(temporary.dump()).stdin(OwnedFd::from(near));
         assert_eq!(call.status().unwrap().code(), Some(code));
