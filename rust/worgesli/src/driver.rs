@@ -91,6 +91,8 @@ pub struct Driver {
     /// the memory read that the table was asked for with, once it was, and the table's length
     pub(crate) table_read: Vec<u8>,
     pub(crate) table_len: usize,
+    /// behind a resync, the memory reads before the one that is not trusted yet; else the greatest number
+    pub(crate) doubt: u64,
     /// reads, writes and flushes of the channel that succeeded
     moves: u64,
 }
@@ -119,6 +121,7 @@ impl Driver {
             asked: 0,
             table_read: Vec::new(),
             table_len: 0,
+            doubt: u64::MAX,
             moves: 0,
         }
     }
@@ -206,13 +209,16 @@ impl Driver {
 
     /// Begins the last memory read anew, in a dump, from its table on: hears what the device still says until it is silent, forgets it, and asks again from
     /// where the last chunk, or the table, began. For a channel that lost bytes (a run that times out with bytes outstanding, a cable that was
-    /// pulled), and for a run that was saved some steps before its process died. The channel must time out: silence is the sign. In any other phase it does nothing.
+    /// pulled), and for a run that was saved some steps before its process died. In any other phase it does nothing.
+    ///
+    /// The channel must time out: silence, as often in a row as the options bear time-outs and once more, is the sign. What then comes is trusted only when the device is silent
+    /// behind it too: else late bytes of the old answer were among it, and it is asked for once more.
     pub fn resync<C, S>(&mut self, channel: &mut C, sink: &mut S) -> Result<(), Error>
     where
         C: Read + Write + ?Sized,
         S: Sink + ?Sized,
     {
-        let phase = self.session.phase();
+        let (phase, s) = (self.session.phase(), *self.session.raw());
         if !matches!(phase, Phase::Table | Phase::Between | Phase::Region) {
             return Ok(());
         }
@@ -220,32 +226,69 @@ impl Driver {
         if let Owed::Send(1.., _) | Owed::Flush = self.owed {
             self.settle(channel, sink)?;
         }
-        drain(channel)?;
-        match phase {
-            Phase::Table => self.table_again(),
-            Phase::Region => self.chunk_again(),
-            _ => {}
+        self.drain(channel)?;
+        match (phase, self.owed) {
+            // it is still to be sent, and counted already
+            (_, Owed::Send(..)) => (self.to, self.doubt) = (self.from, s.reads - 1),
+            (Phase::Table, _) => self.table_again(),
+            (Phase::Region, _) => self.chunk_again(if s.outstanding > 0 { self.asked } else { s.done }),
+            _ => self.doubt = s.reads,
         }
         self.reopen(sink)
     }
 
-    /// The table is asked for anew.
+    /// Hears a channel out; gives how many bytes it said.
+    fn drain<C: Read + ?Sized>(&mut self, channel: &mut C) -> Result<usize, Error> {
+        let (mut heard, mut silent) = (0, 0);
+        while heard < MOST {
+            match again(|| channel.read(&mut [0; 4096])).map_err(Error::channel) {
+                Ok(0) | Err(Error::TimedOut(_)) if silent == self.timeouts => return Ok(heard),
+                Ok(0) | Err(Error::TimedOut(_)) => silent += 1,
+                said => (heard, silent) = (heard + said?, 0),
+            }
+        }
+        Err(Error::Channel(io::Error::new(ErrorKind::InvalidData, "the device does not fall silent")))
+    }
+
+    /// Behind an answer that was asked for again: where the device has more to say, it was not that answer alone.
+    #[cold]
+    fn trust<C, S>(&mut self, channel: &mut C, sink: &mut S) -> Result<(), Error>
+    where
+        C: Read + Write + ?Sized,
+        S: Sink + ?Sized,
+    {
+        let in_region = match self.session.phase() {
+            Phase::Region if self.session.raw().outstanding == 0 => true,
+            Phase::Between => false,
+            // it still comes
+            _ => return Ok(()),
+        };
+        match self.drain(channel)? {
+            0 => self.doubt = u64::MAX,
+            _ if in_region => self.chunk_again(self.asked),
+            _ => self.table_again(),
+        }
+        self.settle(channel, sink)
+    }
+
+    /// The table is to be asked for anew.
     fn table_again(&mut self) {
         let len = self.table_read.len();
+        self.doubt = self.session.raw().reads;
         self.session = self.session.table_begun();
         self.out[..len].copy_from_slice(&self.table_read);
         (self.kept, self.from, self.to, self.owed) = (0, 0, 0, Owed::Send(0, len));
     }
 
-    /// The last chunk is to be asked for anew: of what came of it nothing is kept, here or by the sink.
-    fn chunk_again(&mut self) {
+    /// The open region goes on from the byte `begun`: of what came behind it nothing is kept, here or by the sink.
+    fn chunk_again(&mut self, begun: u64) {
         let s = self.session.raw();
-        let begun = if s.outstanding > 0 { self.asked } else { s.done };
         let handed = s.done - (self.from - self.kept) as u64;
+        self.doubt = s.reads;
         self.from = self.kept + begun.saturating_sub(handed) as usize;
         self.to = self.from;
         self.session = self.session.region_at(begun);
-        if matches!(self.owed, Owed::Send(..) | Owed::EmptyRead) {
+        if self.owed == Owed::EmptyRead {
             self.owed = Owed::Nothing;
         }
         if begun < handed && self.region == Region::Open {
@@ -265,6 +308,10 @@ impl Driver {
         // whether the next step may need bytes. Where it does and is lent none, it only says go. In a region the step before told how many.
         let (mut hungry, mut waits) = (true, 0);
         loop {
+            if self.session.raw().reads > self.doubt {
+                self.trust(channel, sink)?;
+                (hungry, waits) = (true, 0);
+            }
             let wanted = match hungry && self.from == self.to {
                 true if waits > 0 => waits,
                 true => self.session.wanted(),
@@ -592,18 +639,6 @@ fn keeping(mut call: impl FnMut() -> Result<(), Unkept>) -> Result<(), Unkept> {
 
 /// What a device is let say before it must be silent: more than any answer to a memory read has.
 const MOST: usize = 1 << 20;
-
-/// Hears a channel out.
-fn drain<C: Read + ?Sized>(channel: &mut C) -> Result<(), Error> {
-    let mut heard = 0;
-    while heard < MOST {
-        match again(|| channel.read(&mut [0; 4096])).map_err(Error::channel) {
-            Ok(0) | Err(Error::TimedOut(_)) => return Ok(()),
-            heard_now => heard += heard_now?,
-        }
-    }
-    Err(Error::Channel(io::Error::new(ErrorKind::InvalidData, "the device does not fall silent")))
-}
 
 /// Writes some of the bytes.
 #[inline]

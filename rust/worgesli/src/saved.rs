@@ -175,7 +175,7 @@ impl Driver {
             Region::Open | Region::Before => 1,
             Region::Lost => 2,
         };
-        put(&mut to, &[region, self.place as u64, self.asked]);
+        put(&mut to, &[region, self.place as u64, self.asked, self.doubt]);
         put_bytes(&mut to, &self.table_read);
         put_bytes(&mut to, &self.table[..self.table_len]);
         put(&mut to, &[self.reply.len() as u64]);
@@ -225,7 +225,7 @@ fn restored(mut d: Driver, mut from: From) -> Option<Driver> {
         2 => Region::Lost,
         _ => return None,
     };
-    (d.place, d.asked) = (from.size()?, from.number()?);
+    (d.place, d.asked, d.doubt) = (from.size()?, from.number()?, from.number()?);
     d.table_read = from.bytes(OUT)?.to_vec();
     let table = from.bytes(TABLE)?;
     d.table[..table.len()].copy_from_slice(table);

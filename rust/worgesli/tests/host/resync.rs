@@ -135,6 +135,56 @@ fn names_chosen_by_the_table() {
     assert_eq!(options.restore(&run.save()).unwrap().table(), run.table());
 }
 
+/// Silent at one byte for some reads, and then it goes on.
+struct Pauses(Wire, u64, u32);
+
+impl std::io::Read for Pauses {
+    fn read(&mut self, to: &mut [u8]) -> std::io::Result<usize> {
+        if self.0.given < self.1 {
+            let room = to.len().min((self.1 - self.0.given) as usize);
+            return self.0.read(&mut to[..room]);
+        }
+        if self.2 > 0 && !to.is_empty() {
+            self.2 -= 1;
+            return Err(std::io::ErrorKind::TimedOut.into());
+        }
+        self.0.read(to)
+    }
+}
+
+impl std::io::Write for Pauses {
+    fn write(&mut self, bytes: &[u8]) -> std::io::Result<usize> {
+        self.0.write(bytes)
+    }
+    fn flush(&mut self) -> std::io::Result<()> {
+        self.0.flush()
+    }
+}
+
+/// A device that only pauses, for longer than was waited: its late bytes come behind the memory read that is made again, and are not taken for its answer.
+#[test]
+fn late_bytes() {
+    let opening = 48 + 24;
+    for (backend, timeouts) in [(Backend::Serial, 0), (Backend::Usb, 0), (Backend::Serial, 2)] {
+        let w = two_regions(backend);
+        for at in (opening..opening + 192 + 9000 + 4608).step_by(61) {
+            // the pause outlasts the run and the hearing out
+            let wire = Wire::new(Device::dump(w.memory.clone()), Division::Random, at);
+            let mut channel = Pauses(wire, at, 2 * (timeouts + 1));
+            let mut sink = Cut(Record::default(), [0, 2000, 65_536][at as usize % 3]);
+            let options = w.options().timeouts(timeouts);
+            let mut run = options.start().unwrap();
+            assert!(matches!(run.run(&mut channel, &mut sink, |_| ()), Err(Error::TimedOut(_))), "byte {at}");
+            run.resync(&mut channel, &mut sink).unwrap();
+            // saved in doubt, it is restored in doubt
+            let mut run = options.restore(&run.save()).unwrap();
+            assert!(matches!(run.run(&mut channel, &mut sink, |_| ()), Ok(Outcome::Dumped { .. })), "byte {at}");
+            assert!(sink.0 .0 == w.kept(), "byte {at}");
+            assert_eq!(channel.0.device.queued(), 0);
+        }
+    }
+}
+
 /// A device that is never silent is not heard for ever.
 #[test]
 fn a_device_that_babbles() {
