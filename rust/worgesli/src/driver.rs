@@ -212,7 +212,7 @@ impl Driver {
     /// pulled), and for a run that was saved some steps before its process died. In any other phase it does nothing.
     ///
     /// The channel must time out: silence, as often in a row as the options bear time-outs and once more, is the sign. What then comes is trusted only when the device is silent
-    /// behind it too: else late bytes of the old answer were among it, and it is asked for once more.
+    /// behind it too: else late bytes of the old answer were among it; the run tells that as an error of the channel, and, called again, asks for it once more.
     pub fn resync<C, S>(&mut self, channel: &mut C, sink: &mut S) -> Result<(), Error>
     where
         C: Read + Write + ?Sized,
@@ -229,7 +229,7 @@ impl Driver {
         self.drain(channel)?;
         match (phase, self.owed) {
             // it is still to be sent, and counted already
-            (_, Owed::Send(..)) => (self.to, self.doubt) = (self.from, s.reads - 1),
+            (_, Owed::Send(..)) => (self.to, self.doubt) = (self.from, s.reads.saturating_sub(1)),
             (Phase::Table, _) => self.table_again(),
             (Phase::Region, _) => self.chunk_again(if s.outstanding > 0 { self.asked } else { s.done }),
             _ => self.doubt = s.reads,
@@ -250,25 +250,24 @@ impl Driver {
         Err(Error::Channel(io::Error::new(ErrorKind::InvalidData, "the device does not fall silent")))
     }
 
-    /// Behind an answer that was asked for again: where the device has more to say, it was not that answer alone.
+    /// Behind an answer that was asked for again: where the device has more to say, it was not that answer alone. That is told, and the next call asks once more.
     #[cold]
-    fn trust<C, S>(&mut self, channel: &mut C, sink: &mut S) -> Result<(), Error>
-    where
-        C: Read + Write + ?Sized,
-        S: Sink + ?Sized,
-    {
+    fn trust<C: Read + ?Sized>(&mut self, channel: &mut C) -> Result<(), Error> {
         let in_region = match self.session.phase() {
             Phase::Region if self.session.raw().outstanding == 0 => true,
             Phase::Between => false,
             // it still comes
             _ => return Ok(()),
         };
-        match self.drain(channel)? {
-            0 => self.doubt = u64::MAX,
-            _ if in_region => self.chunk_again(self.asked),
-            _ => self.table_again(),
+        if self.drain(channel)? == 0 {
+            self.doubt = u64::MAX;
+            return Ok(());
         }
-        self.settle(channel, sink)
+        match in_region {
+            true => self.chunk_again(self.asked),
+            false => self.table_again(),
+        }
+        Err(Error::Channel(io::Error::new(ErrorKind::InvalidData, "more came than was asked for: it is asked for again")))
     }
 
     /// The table is to be asked for anew.
@@ -309,7 +308,7 @@ impl Driver {
         let (mut hungry, mut waits) = (true, 0);
         loop {
             if self.session.raw().reads > self.doubt {
-                self.trust(channel, sink)?;
+                self.trust(channel)?;
                 (hungry, waits) = (true, 0);
             }
             let wanted = match hungry && self.from == self.to {

@@ -11,7 +11,8 @@ pub trait Sink {
     fn bytes(&mut self, bytes: &[u8]) -> io::Result<usize>;
     /// All bytes of the region were taken.
     fn close(&mut self, place: usize) -> Result<(), Unkept>;
-    /// A region goes on that an earlier process opened and of which it took `taken` bytes.
+    /// A region goes on of which the sink has the first `taken` bytes: one that an earlier process opened, or one that a resync cuts back. What it has
+    /// behind them is not the region's.
     fn reopen(&mut self, _place: usize, _entry: &Entry, _taken: u64) -> Result<(), Unkept> {
         Err(Unkept::Again(io::Error::new(ErrorKind::Unsupported, "this sink cannot go on with a region of an earlier process")))
     }

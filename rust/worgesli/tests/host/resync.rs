@@ -110,6 +110,29 @@ fn an_older_run_into_files() {
     }
 }
 
+/// A byte is lost while a region's file is open: it is cut back, and comes out whole under its own name.
+#[test]
+fn a_byte_is_lost_into_files() {
+    let w = two_regions(Backend::Usb);
+    let opening = 48 + 24 + 192;
+    for at in [0, 1, 700, 4095, 4096, 5000, 8999, 9000, 9512, 13_607] {
+        let t = Temporary::new();
+        let faults = Faults { loses: Some(opening + at), ..Faults::default() };
+        let mut wire = Wire::new(Device::dump(w.memory.clone()), Division::AtMost(700), at).with(faults);
+        let (mut run, mut sink) = (w.options().start().unwrap(), Folder::new(t.0.join("dump")).unwrap());
+        assert_eq!(run_on(&mut run, &mut wire, &mut sink).1, 1, "byte {at}");
+        for (kept, r) in sink.regions().iter().zip(&w.regions) {
+            let name = std::str::from_utf8(&r.filename).unwrap().trim_end_matches('\0');
+            assert_eq!((kept.file.as_str(), &kept.state), (name, &State::Whole), "byte {at}");
+            assert!(
+                fs::read(t.0.join("dump").join(name)).unwrap() == w.memory.bytes(r.base, r.len as usize),
+                "byte {at}: {name}"
+            );
+        }
+        assert_eq!(sink.regions().len(), 3);
+    }
+}
+
 /// The table is there as soon as it came, no longer than it is; names chosen by it hold from then on. Outside a dump a resync does nothing.
 #[test]
 fn names_chosen_by_the_table() {
@@ -178,6 +201,9 @@ fn late_bytes() {
             run.resync(&mut channel, &mut sink).unwrap();
             // saved in doubt, it is restored in doubt
             let mut run = options.restore(&run.save()).unwrap();
+            // told, and asked for once more
+            let told = run.run(&mut channel, &mut sink, |_| ());
+            assert!(matches!(told, Err(Error::Channel(e)) if e.kind() == std::io::ErrorKind::InvalidData), "byte {at}");
             assert!(matches!(run.run(&mut channel, &mut sink, |_| ()), Ok(Outcome::Dumped { .. })), "byte {at}");
             assert!(sink.0 .0 == w.kept(), "byte {at}");
             assert_eq!(channel.0.device.queued(), 0);
