@@ -254,6 +254,7 @@ impl Driver {
     #[cold]
     fn trust<C: Read + ?Sized>(&mut self, channel: &mut C) -> Result<(), Error> {
         let in_region = match self.session.phase() {
+            _ if self.session.raw().reads <= self.doubt => return Ok(()),
             Phase::Region if self.session.raw().outstanding == 0 => true,
             Phase::Between => false,
             // it still comes
@@ -307,7 +308,7 @@ impl Driver {
         // whether the next step may need bytes. Where it does and is lent none, it only says go. In a region the step before told how many.
         let (mut hungry, mut waits) = (true, 0);
         loop {
-            if self.session.raw().reads > self.doubt {
+            if self.doubt != u64::MAX {
                 self.trust(channel)?;
                 (hungry, waits) = (true, 0);
             }
