@@ -322,9 +322,9 @@ impl Driver {
             }
             let told = self.step_lent();
             (hungry, waits) = (true, told.waits as usize);
-            self.from += told.taken;
             match answer(told.answer, told.first, told.second) {
                 Answer::Bytes(k) => {
+                    self.from += k;
                     hungry = k < wanted;
                     if self.from - self.kept >= gathers {
                         self.hand_over(sink)?;
@@ -336,7 +336,7 @@ impl Driver {
                     self.owed = Owed::Send(0, k);
                     self.asked = self.session.raw().done;
                     if told.taken > 0 {
-                        self.answered(k);
+                        self.answered(told.taken, k);
                     }
                     self.send(channel, 0, k)?;
                 }
@@ -369,14 +369,15 @@ impl Driver {
     #[inline(always)]
     fn taken(&mut self, taken: usize) {
         if taken > 0 {
+            self.from += taken;
             self.kept = self.from;
         }
     }
 
     /// A packet was taken, and the answer to it has k bytes. Where that asks for the table, it is noted.
     #[cold]
-    fn answered(&mut self, k: usize) {
-        self.kept = self.from;
+    fn answered(&mut self, taken: usize, k: usize) {
+        self.taken(taken);
         if self.session.phase() == Phase::Table {
             self.table_read = self.out[..k].to_vec();
             // refused (17) above that
