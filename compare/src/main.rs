@@ -7,6 +7,7 @@ mod host;
 mod judge;
 mod leaves;
 mod lines;
+mod mode_one;
 mod original;
 mod packets;
 mod random;
@@ -18,7 +19,7 @@ use device::Rng;
 use generate::Seeded;
 use host::Cut;
 use judge::Verdict;
-use original::{Original, Reads};
+use original::Original;
 use random::Draws;
 use std::collections::BTreeMap;
 use std::path::{Path, PathBuf};
@@ -56,21 +57,26 @@ impl Comparison {
     fn compare(&mut self, t: &Talk) -> Vec<u8> {
         let (set, names) = (t.image_set(), t.name_list());
         let lent = Lent { talk: t, set: &set.bytes, names: &names.bytes };
-        let o = original::run(t, &set, Reads::Full);
+        let (o, one) = mode_one::run(t, &set);
         if !self.kinds.contains_key(t.kind) {
             self.order.push(t.kind);
         }
         self.kinds.entry(t.kind).or_default().run += 1;
-        if self.answered(&lent, &o) {
+        let same = self.answered(&lent, &o);
+        if same {
+            self.cut(&lent, &o);
+        }
+        if one {
+            *self.named.entry("mode-1").or_default() += 1;
+        } else if same {
             self.kinds.entry(t.kind).or_default().inside += 1;
             *self.ends.entry(events::name_of(&o.ran.end)).or_default() += 1;
-            self.cut(&lent, &o);
             self.sample.offer(t, &o, lent.set, lent.names);
         }
         o.fed
     }
 
-    /// Deliveries of all that is queued. True where the run is inside the domain and the same.
+    /// Deliveries of all that is queued. True where the original's run tells all of it, and it is the same.
     fn answered(&mut self, l: &Lent, o: &Original) -> bool {
         let h = host::run(l.talk, l.set, l.names, Cut::Whole, false);
         match judge::judge(o, &h) {
@@ -148,10 +154,10 @@ impl Comparison {
 
     fn seeded(&mut self) {
         let mut g = Seeded::new(self.seed);
-        for _ in 0..50_000 {
+        for _ in 0..60_000 {
             self.compare(&g.soup());
         }
-        for _ in 0..20_000 {
+        for _ in 0..22_000 {
             for (t, damaged) in [
                 (g.transfer(), "damaged transfers"),
                 (g.command(), "damaged commands"),
@@ -171,7 +177,10 @@ impl Comparison {
         }
         let (run, inside) = self.kinds.values().fold((0, 0), |a, k| (a.0 + k.run, a.1 + k.inside));
         println!("  {run:>9} run, {inside:>6} inside the domain, {} differ", self.differ);
-        println!("  those inside ran again with deliveries cut at random, as wanted, and at one size ({} lines)", self.lines);
+        println!(
+            "  those inside and those of mode 1 ran again with deliveries cut at random, as wanted, and at one size ({} lines)",
+            self.lines
+        );
         println!("ends of those inside");
         for (end, n) in &self.ends {
             println!("  {n:>9} {end}");

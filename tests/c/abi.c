@@ -144,6 +144,48 @@ static void sip(const uint8_t *bytes, size_t n)
     EXPECT(refused(closed(s), 4));
 }
 
+/* ---- every mode, offered and opened in: the answer has the session's, the switch behind a reply is to 0 */
+
+static const uint32_t modes[] = {WORGESLI_MODE_WAITING_FOR_IMAGE, WORGESLI_MODE_IMAGE_TRANSFER_COMPLETE, WORGESLI_MODE_MEMORY_DEBUG, WORGESLI_MODE_COMMAND};
+
+static void offers(worgesli_session s, uint32_t mode)
+{
+    uint8_t hello[49] = {1, 0, 0, 0, 48, 0, 0, 0, 2, 0, 0, 0, 1, 0, 0, 0, 0, 16};
+    for (uint8_t offered = 0; offered < 6; offered++) {
+        const bool named = offered < sizeof modes / sizeof modes[0];
+        EXPECT(!named || modes[offered] == offered);
+        hello[20] = offered;
+        worgesli_packet p = worgesli_parse_packet(hello, 48);
+        EXPECT(named ? p.refused == 0 && p.value == offered : p.refused == 9 && p.value == 0);
+        fill();
+        worgesli_stepped r = step(s, hello, 48);
+        EXPECT(r.taken == 48 && (named ? r.answer == WORGESLI_ANSWER_SEND && r.first == 48 : r.answer == WORGESLI_ANSWER_REFUSED && r.first == 9));
+        EXPECT(!named || (memcmp(out, "\2\0\0\0\x30\0\0\0\2\0\0\0\1\0\0\0\0\0\0", 20) == 0 && out[20] == mode && out[21] == 0));
+        EXPECT(named || (filled() && r.session.phase == WORGESLI_PHASE_ENDED));
+        hello[4] = 49;
+        r = step(s, hello, 49);
+        EXPECT(r.answer == WORGESLI_ANSWER_REFUSED && r.first == (named ? 11 : 9) && r.taken == 49);
+        hello[0] = 2, hello[4] = 48;
+        r = step(s, hello, 48);
+        EXPECT(r.answer == WORGESLI_ANSWER_REFUSED && r.first == (named ? 10 : 9) && r.taken == 48);
+        hello[0] = 1;
+    }
+}
+
+static void every_mode(void)
+{
+    for (size_t i = 0; i < sizeof modes / sizeof modes[0]; i++) {
+        worgesli_session s = worgesli_open(modes[i], WORGESLI_COMMAND_READ_HW_ID, WORGESLI_BACKEND_SERIAL);
+        EXPECT(worgesli_is_session(s) && s.mode == modes[i]);
+        offers(s, modes[i]);
+        s.phase = WORGESLI_PHASE_RESPONSE, s.count = 3;
+        fill();
+        worgesli_stepped r = step(s, none, 3);
+        EXPECT(r.answer == WORGESLI_ANSWER_SEND && r.first == 12 && r.session.phase == WORGESLI_PHASE_SWITCHED && r.session.mode == modes[i]);
+        EXPECT(memcmp(out, "\x0c\0\0\0\x0c\0\0\0\0\0\0\0\x5a", 13) == 0);
+    }
+}
+
 /* ---- bits that are no session */
 
 /* A step of s, by value and in place, with this image set and names and so many bytes of out. */
@@ -181,7 +223,7 @@ static void no_sessions(void)
     const worgesli_session good = worgesli_open(WORGESLI_MODE_MEMORY_DEBUG, WORGESLI_COMMAND_READ_OEM_KEY_HASH, WORGESLI_BACKEND_USB);
     worgesli_session s;
     EXPECT(worgesli_is_session(good));
-    no_session(worgesli_open(1, WORGESLI_COMMAND_NONE, 0));
+    no_session(worgesli_open(4, WORGESLI_COMMAND_NONE, 0));
     no_session(worgesli_open(0, 4, 0));
     no_session(worgesli_open(0, 0, 2));
     s = good, s.phase = 7, no_session(s);
@@ -389,6 +431,7 @@ int main(void)
         sip(bytes, n);
     if (!failed)
         leaves(bytes);
+    every_mode();
     no_sessions();
     ends();
     lends();

@@ -63,7 +63,8 @@ pub mod sahara {
         match n {
             0 => SaharaMode::WaitingForImage,
             2 => SaharaMode::MemoryDebug,
-            _ => SaharaMode::Command,
+            3 => SaharaMode::Command,
+            n => unreachable!("the original has no mode {n}"),
         }
     }
 

@@ -75,6 +75,7 @@ bytes-are (Q.MemRead64 a k) = refl
 
 words-fit : (q : Request) → T (below (256 ^ 4) (wordsIn q))
 words-fit (Q.HelloResp M.WaitingForImage) = tt
+words-fit (Q.HelloResp M.ImageTransferComplete) = tt
 words-fit (Q.HelloResp M.MemoryDebug) = tt
 words-fit (Q.HelloResp M.Command) = tt
 words-fit Q.Done = tt

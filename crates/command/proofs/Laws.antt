@@ -26,6 +26,7 @@ use Rattle.command.specs.declared.Class.the-variants as C
 pub mode-back : (m : SaharaMode) → modeOf (modeNumber m) ≡ MO.Is m
 unfolding modeOf
 mode-back M.WaitingForImage = refl
+mode-back M.ImageTransferComplete = refl
 mode-back M.MemoryDebug = refl
 mode-back M.Command = refl
 

@@ -18,9 +18,10 @@ use Rattle.command.specs.declared.CommandOf.the-variants as CO
 use Rattle.command.specs.declared.Class.{Class}
 use Rattle.command.specs.declared.Class.the-variants as C
 
--- "Modes are 0, 2, 3"
+-- "Modes are 0, 2, 3", and "a fourth mode, 1, image transfer complete" (document 02, request 1)
 abbrev pub modeNumber : SaharaMode → ℕ
 modeNumber M.WaitingForImage = 0
+modeNumber M.ImageTransferComplete = 1
 modeNumber M.MemoryDebug = 2
 modeNumber M.Command = 3
 
@@ -67,8 +68,9 @@ leastBody K.ReadData64 = 24
 unfoldable pub modeOf : ℕ → ModeOf
 modeOf n =
     pick (eqb n (modeNumber M.WaitingForImage)) (MO.Is M.WaitingForImage)
+    (pick (eqb n (modeNumber M.ImageTransferComplete)) (MO.Is M.ImageTransferComplete)
     (pick (eqb n (modeNumber M.MemoryDebug)) (MO.Is M.MemoryDebug)
-    (pick (eqb n (modeNumber M.Command)) (MO.Is M.Command) MO.Bad))
+    (pick (eqb n (modeNumber M.Command)) (MO.Is M.Command) MO.Bad)))
 
 unfoldable pub commandOf : ℕ → CommandOf
 commandOf n =

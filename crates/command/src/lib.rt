@@ -4,6 +4,7 @@ ghost use Rattle.command.specs.Command.{modeNumber, commandNumber, kindN
 
 pub enum SaharaMode {
     WaitingForImage,
+    ImageTransferComplete,
     MemoryDebug,
     Command,
 }
@@ -54,6 +55,7 @@ pub fn mode_of(n: u32) -> ModeOf
 {
     match n {
         0 => ModeOf::Is(SaharaMode::WaitingForImage),
+        1 => ModeOf::Is(SaharaMode::ImageTransferComplete),
         2 => ModeOf::Is(SaharaMode::MemoryDebug),
         3 => ModeOf::Is(SaharaMode::Command),
         _ => ModeOf::Bad,
@@ -65,6 +67,7 @@ pub fn mode_number(mode: SaharaMode) -> u32
 {
     match mode {
         SaharaMode::WaitingForImage => 0,
+        SaharaMode::ImageTransferComplete => 1,
         SaharaMode::MemoryDebug => 2,
         SaharaMode::Command => 3,
     }

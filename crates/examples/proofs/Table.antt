@@ -1,17 +1,20 @@
 -- Every example of the table holds: by computation, the definitions opened. Assumes nothing.
+use mathlib.Core.List.{_++_}
 use lib.Dec.{T}
 use Rattle.field.specs.Field.{le, leBytes}
 use Rattle.command.specs.Command.{modeOf, kinds, unimplemented, classOf}
 use Rattle.packet.specs.Packet.{kindOf, decodeOf}
+use Rattle.build.specs.Build.{fields, bytesOf}
 use Rattle.bundle.specs.Bundle.{slotsGood, wellFormed, slotOf}
 use Rattle.image.specs.Image.{rangeOf}
 use Rattle.utf8.specs.Utf8.{table as rows3-7, leads, afterFirst, goesOn}
 use Rattle.filename.specs.Filename.{before, stemOf}
 use Rattle.selection.specs.Selection.{low, namesFrom, same, member, selected}
 use Rattle.verdict.specs.Verdict.{verdictOf}
-use Rattle.examples.specs.Rows.{rows, all}
+use Rattle.session.specs.FillingPhase.{responseOf}
+use Rattle.examples.specs.Rows.{rows, modeOne, all}
 
-pub table : T (all rows)
-unfolding rows le leBytes modeOf kinds unimplemented classOf kindOf decodeOf slotsGood wellFormed slotOf rangeOf rows3-7
-    leads afterFirst goesOn before stemOf low namesFrom same member selected verdictOf
+pub table : T (all (rows ++ modeOne))
+unfolding rows modeOne le leBytes modeOf kinds unimplemented classOf kindOf decodeOf fields bytesOf slotsGood wellFormed slotOf rangeOf rows3-7
+    leads afterFirst goesOn before stemOf low namesFrom same member selected verdictOf responseOf
 table = tt

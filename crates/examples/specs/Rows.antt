@@ -1,15 +1,15 @@
 -- The computed table. Document 01, "Lengths, modes and stems": "To be proved together, as one computed table". An example has what the definitions give and what
--- 01 says. The theorem is `table` of proofs/Table.antt.
+-- 01 says, or document 02 where a request changed it. The theorem is `table` of proofs/Table.antt.
 use Prim.Native.Nat.{ℕ, _+_}
 use mathlib.Core.Bool.{Bool, true, false}
 use mathlib.Core.List.{List, [], _∷_, _++_}
-use lib.ListN.{length, replicate}
+use lib.ListN.{length, replicate, take}
 use Rattle.base.specs.Choice.{pick}
 use Rattle.field.specs.Field.{leBytes}
+use Rattle.command.specs.declared.SaharaMode.{SaharaMode}
 use Rattle.command.specs.declared.SaharaMode.the-variants as M
-use Rattle.packet.specs.Packet.{decodeOf, lengthChecked}
-use Rattle.packet.specs.declared.Decoded.{Decoded}
-use Rattle.packet.specs.declared.Decoded.the-variants as D
+use Rattle.build.specs.Build.{bytesOf}
+use Rattle.packet.specs.Packet.{lengthChecked}
 use Rattle.packet.specs.declared.LengthCheck.{LengthCheck}
 use Rattle.packet.specs.declared.LengthCheck.the-variants as L
 use Rattle.image.specs.Image.{rangeOf}
@@ -22,14 +22,17 @@ use Rattle.verdict.specs.declared.QdlBackend.the-variants as U
 use Rattle.verdict.specs.declared.Opening.{Opening}
 use Rattle.verdict.specs.declared.Verdict.{Verdict}
 use Rattle.verdict.specs.declared.Verdict.the-variants as W
+use Rattle.session.specs.Outcome.{openedWith, filling}
+use Rattle.session.specs.FillingPhase.{responseOf}
 
--- what an example says: accepted, refused with a number, finished with a number, bytes of a set, a stem that matches or not
+-- what an example says: accepted, refused with a number, finished with a number, bytes of a set, a stem that matches or not, a packet sent
 pub data Says : Type 0 where
   ok : Says
   refused : ℕ → Says
   finish : ℕ → Says
   given : ℕ → ℕ → Says
   matches : Bool → Says
+  sends : List ℕ → Says
 
 -- a saying as numbers: which it is, and its values
 abbrev pub numbers : Says → List ℕ
@@ -39,6 +42,7 @@ numbers (finish how) = 2 ∷ how ∷ []
 numbers (given start k) = 3 ∷ start ∷ k ∷ []
 numbers (matches true) = 4 ∷ 1 ∷ []
 numbers (matches false) = 4 ∷ 0 ∷ []
+numbers (sends bytes) = 5 ∷ bytes
 
 -- ---- how each operation's answer is said
 
@@ -46,12 +50,8 @@ abbrev pub ofLength : LengthCheck → Says
 ofLength L.Good = ok
 ofLength (L.Refused why) = refused why
 
-abbrev pub ofDecoded : Decoded → Says
-ofDecoded (D.Is p) = ok
-ofDecoded (D.Refused why) = refused why
-
 abbrev pub ofVerdict : Verdict → Says
-ofVerdict (W.Reply q) = ok
+ofVerdict (W.Reply q) = sends (bytesOf q)
 ofVerdict (W.Image x k) = given x k
 ofVerdict W.Pass = ok
 ofVerdict (W.Finish how) = finish how
@@ -69,12 +69,19 @@ ofRange (R.Refused why) = refused why
 abbrev pub packet : ℕ → ℕ → List ℕ → List ℕ
 packet cmd len body = leBytes 4 cmd ++ (leBytes 4 len ++ body)
 
--- a hello of a length and a mode
-abbrev pub hello : ℕ → ℕ → List ℕ → List ℕ
-hello len mode rest = packet 1 len (leBytes 4 2 ++ (leBytes 4 1 ++ (leBytes 4 0 ++ (leBytes 4 mode ++ (replicate 24 0 ++ rest)))))
+-- version 2, compatible 1, a word of 0 (the greatest length or the status), a mode, six words of 0, and more
+abbrev pub greeting : ℕ → List ℕ → List ℕ
+greeting mode rest = leBytes 4 2 ++ (leBytes 4 1 ++ (leBytes 4 0 ++ (leBytes 4 mode ++ (replicate 24 0 ++ rest))))
 
-abbrev pub plainOpening : Opening
-plainOpening = record { mode = M.WaitingForImage; command = X.None; backend = U.Serial }
+-- a hello of a length and a mode, and a hello response of a mode
+abbrev pub hello : ℕ → ℕ → List ℕ → List ℕ
+hello len mode rest = packet 1 len (greeting mode rest)
+
+abbrev pub helloResp : ℕ → List ℕ
+helloResp mode = packet 2 48 (greeting mode [])
+
+abbrev pub opening : SaharaMode → Opening
+opening m = record { mode = m; command = X.None; backend = U.Serial }
 
 -- a set of no image, of one of 10 bytes, and of two
 abbrev pub none : List ℕ
@@ -86,8 +93,16 @@ ten = leBytes 4 1 ++ (leBytes 4 10 ++ (leBytes 4 0 ++ (leBytes 4 10 ++ replicate
 abbrev pub two : List ℕ
 two = leBytes 4 2 ++ (leBytes 4 10 ++ (leBytes 4 0 ++ (leBytes 4 5 ++ (leBytes 4 5 ++ (leBytes 4 5 ++ replicate 10 7)))))
 
+-- a whole packet, in a session opened with a mode, and with mode 0
+abbrev pub judgedIn : SaharaMode → List ℕ → Says
+judgedIn m p = ofVerdict (verdictOf (opening m) none 65536 4096 p)
+
 abbrev pub judged : List ℕ → Says
-judged p = ofVerdict (verdictOf plainOpening none 65536 4096 p)
+judged = judgedIn M.WaitingForImage
+
+-- what is sent when a response is whole, here one without bytes, in a session opened with a mode
+abbrev pub switched : SaharaMode → Says
+switched m = sends (take 12 (responseOf (openedWith (opening m)) (filling 0 0) [] [] [] (replicate 48 0) .out))
 
 -- a list of one name, and an entry with a filename
 abbrev pub name : List ℕ → List ℕ
@@ -118,13 +133,14 @@ pub record Example : Type 0 where
 abbrev pub example : Says → Says → Example
 example g s = record { gives = g; says = s }
 
+-- 01's, in its order; "The case for mode 1 in document 01 becomes accepted" (document 02, request 1): it was "Hello of mode 1 (9)"
 unfoldable pub rows : List Example
 rows =
     example (ofLength (lengthChecked 7)) (refused 5)
     ∷ example (ofLength (lengthChecked 8)) ok
     ∷ example (ofLength (lengthChecked 4096)) ok
     ∷ example (ofLength (lengthChecked 4097)) (refused 5)
-    ∷ example (ofDecoded (decodeOf (hello 48 1 []))) (refused 9)
+    ∷ example (judged (hello 48 1 [])) (sends (helloResp 0))
     ∷ example (judged (hello 49 0 (0 ∷ []))) (refused 11)
     ∷ example (judged (packet 6 16 (leBytes 4 1 ++ replicate 4 0))) (finish 1)
     ∷ example (ofRange (rangeOf ten 0 4 6)) (given (16 + 4) 6)
@@ -134,6 +150,16 @@ rows =
     ∷ example (ofRange (rangeOf two 9 0 1)) (refused 12)
     ∷ example (matches (selected 8 (name ocimem) (entry OCIMEM·BIN))) (matches true)
     ∷ example (matches (selected 8 (name ddrcs0) (entry DDRCS0))) (matches false)
+    ∷ []
+
+-- what comes with that: a session opened with mode 1 answers with it, and still sends SwitchMode with 0; mode 4 stays 9; HelloResp of mode 1 is 10, Hello of 49 is 11
+unfoldable pub modeOne : List Example
+modeOne =
+    example (judgedIn M.ImageTransferComplete (hello 48 1 [])) (sends (helloResp 1))
+    ∷ example (switched M.ImageTransferComplete) (sends (packet 0x0c 12 (leBytes 4 0)))
+    ∷ example (judged (hello 48 4 [])) (refused 9)
+    ∷ example (judged (helloResp 1)) (refused 10)
+    ∷ example (judged (hello 49 1 (0 ∷ []))) (refused 11)
     ∷ []
 
 abbrev pub all : List Example → Bool

@@ -48,8 +48,7 @@ long p k = le 8 (drop (8 + 8 * k) p)
 abbrev pub unkOf : List ℕ → Unk
 unkOf p = record { unk0 = word p 4; unk1 = word p 5; unk2 = word p 6; unk3 = word p 7; unk4 = word p 8; unk5 = word p 9 }
 
--- "Hello: version, compatible, greatest length, mode, six unused words." A mode that is not 0, 2 or 3 (`modeOf` of command/specs/Command) makes it
--- malformed: 9
+-- "Hello: version, compatible, greatest length, mode, six unused words." A number that is no mode (`modeOf` of command/specs/Command) makes it malformed: 9
 abbrev pub helloOf : List ℕ → ModeOf → Body
 helloOf p (MO.Is m) =
     Y.Is (B.HelloReq (record { ver = word p 0; compatible = word p 1; «max_len» = word p 2; mode = m; unk = unkOf p }))

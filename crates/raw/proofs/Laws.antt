@@ -119,9 +119,10 @@ mode-kept : (n : ℕ) → isMode n ≡ true → modeNumber (modeIn (modeOf n)) �
 unfolding modeOf
 mode-kept n h =
     by-test (eqb n 0) (λ e. rw (eqb-true n 0 e) refl)
-    (λ e0. by-test (eqb n 2) (λ e. rw (eqb-true n 2 e) refl)
+    (λ e0. by-test (eqb n 1) (λ e. rw (eqb-true n 1 e) refl)
+    (λ e1. by-test (eqb n 2) (λ e. rw (eqb-true n 2 e) refl)
     (λ e2. by-test (eqb n 3) (λ e. rw (eqb-true n 3 e) refl)
-    (λ e3. absurd (no (rw (e0, e2, e3) at h)))))
+    (λ e3. absurd (no (rw (e0, e1, e2, e3) at h))))))
 
 exec-kept : (n : ℕ) → isExec n ≡ true → execNumber (execIn (commandOf n)) ≡ n
 unfolding commandOf

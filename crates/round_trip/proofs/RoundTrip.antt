@@ -34,6 +34,7 @@ pub hello-resp : (m : SaharaMode) → decodeOf (bytesOf (Q.HelloResp m))
     }))
 unfolding decodeOf kindOf classOf kinds modeOf bytesOf fields le leBytes
 hello-resp M.WaitingForImage = refl
+hello-resp M.ImageTransferComplete = refl
 hello-resp M.MemoryDebug = refl
 hello-resp M.Command = refl
 

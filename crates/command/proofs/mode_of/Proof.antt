@@ -20,9 +20,18 @@ returns-3 c = rw (c .match .keys3) refl
 
 returns-4 : tie.Need-returns-4
 unfolding modeOf
-returns-4 c =
+returns-4 c = rw (c .match .keys4) refl
+
+returns-5 : tie.Need-returns-5
+unfolding modeOf
+returns-5 c =
     let n = c .before .args .n in
-    simp (ne-eqb n 0 (λ q. omega arith), ne-eqb n 2 (λ q. omega arith), ne-eqb n 3 (λ q. omega arith))
+    simp (
+      ne-eqb n 0 (λ q. omega arith),
+      ne-eqb n 1 (λ q. omega arith),
+      ne-eqb n 2 (λ q. omega arith),
+      ne-eqb n 3 (λ q. omega arith),
+    )
 
 pub mode-of-spec : {M : Type 1} → statement M
-mode-of-spec = tie.close (tie.spec returns returns-2 returns-3 returns-4)
+mode-of-spec = tie.close (tie.spec returns returns-2 returns-3 returns-4 returns-5)

@@ -119,7 +119,7 @@ fn numbers(rng: &mut Rng) -> raw::Session {
     };
     let phase = rng.below(8) as u32;
     let mut s = raw::Session {
-        mode: [0, 2, 3, 1][(rng.below(16) as usize).saturating_sub(12)],
+        mode: [0, 1, 2, 3, 4][(rng.below(16) as usize).saturating_sub(11)],
         command: [0, 3, 0xffff_ffff, 4][(rng.below(16) as usize).saturating_sub(12)],
         backend: (rng.below(16) / 7) as u32,
         phase,
@@ -260,10 +260,10 @@ fn regions_in_place() {
 /// Opening with numbers that name none gives a value that is no session.
 #[test]
 fn opened_with_nonsense() {
-    for mode in 0..5 {
+    for mode in [0, 1, 2, 3, 4, 5, 0x100, 0x101, 0xffff_ffff] {
         for command in [0, 1, 2, 3, 4, 0xffff_fffe, 0xffff_ffff] {
             for backend in 0..3 {
-                let named = [0, 2, 3].contains(&mode) && (command < 4 || command == raw::NO_COMMAND) && backend < 2;
+                let named = mode < 4 && (command < 4 || command == raw::NO_COMMAND) && backend < 2;
                 let s = raw::worgesli_open(mode, command, backend);
                 assert_eq!(raw::worgesli_is_session(s), named);
                 assert_eq!(raw::worgesli_wanted(s), if named { 8 } else { 0 });

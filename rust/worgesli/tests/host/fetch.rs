@@ -31,11 +31,30 @@ fn every_division_gives_the_memory() {
     }
 }
 
+/// A board that says hello with mode 1, as some do after a warm restart, is fetched from like any other; by a session of mode 1 too.
+#[test]
+fn warm_restart() {
+    for seed in 0..400 {
+        let w = world(seed);
+        let offer = device::mem_debug64(w.memory.table_at(), w.memory.table_len());
+        for mode in [Mode::MemoryDebug, Mode::ImageTransferComplete] {
+            let turns = [device::Turn::Say(device::hello(1)), device::Turn::Hear(48), device::Turn::Say(offer.clone())];
+            let mut wire = Wire::new(Device::new(w.memory.clone(), turns.into()), Division::Random, seed);
+            let mut sink = Record::default();
+            let end = sahara_run(&mut wire, &Options::new(w.backend, mode).names(&w.names), &mut sink, |_| ());
+            assert_eq!(end.unwrap(), Outcome::Dumped { reads: w.memory_reads() }, "seed {seed}");
+            assert_eq!((sink.0, wire.device.heard()[20]), (w.kept(), mode as u8), "seed {seed}");
+        }
+    }
+}
+
+const MODES: [Mode; 4] = [Mode::WaitingForImage, Mode::ImageTransferComplete, Mode::MemoryDebug, Mode::Command];
+
 /// HelloResp has the session's mode, whatever the device offers.
 #[test]
 fn hello_response() {
-    for mode in [Mode::WaitingForImage, Mode::MemoryDebug, Mode::Command] {
-        let turns = vec![device::Turn::Say(device::hello(2)), device::Turn::Hear(48), device::Turn::Say(device::reset_resp())];
+    for (mode, offered) in MODES.into_iter().flat_map(|m| (0..4).map(move |o| (m, o))) {
+        let turns = vec![device::Turn::Say(device::hello(offered)), device::Turn::Hear(48), device::Turn::Say(device::reset_resp())];
         let mut wire = Wire::new(Device::new(Memory::empty(), turns), Division::Random, 3);
         let end = sahara_run(&mut wire, &Options::new(Backend::Usb, mode), &mut Count::default(), |_| ());
         assert_eq!(end.unwrap(), Outcome::Reset);
@@ -85,16 +104,17 @@ fn images_and_the_loader_after_them() {
 /// A command's reply, of any length up to the reply buffer; what comes after SwitchMode stays in the channel.
 #[test]
 fn replies() {
-    for (seed, len) in [0, 1, 4, 7, 8, 32, 511, 512, 4096, 5000, 65_536].into_iter().enumerate() {
+    let lens = [0, 1, 4, 7, 8, 32, 511, 512, 4096, 5000, 65_536];
+    for (mode, (seed, len)) in MODES.into_iter().flat_map(|m| lens.into_iter().enumerate().map(move |l| (m, l))) {
         let mut reply = vec![0; len];
         Rng::new(seed as u64).fill(&mut reply);
         let next = device::hello(0);
         let mut wire = Wire::new(Device::command(3, &reply, &next), Division::Random, seed as u64);
-        let options = Options::new(Backend::Usb, Mode::Command).command(Command::ReadOemKeyHash);
+        let options = Options::new(Backend::Usb, mode).command(Command::ReadOemKeyHash);
         let end = sahara_run(&mut wire, &options, &mut Count::default(), |_| ());
         assert_eq!(end.unwrap(), Outcome::Reply(reply));
         let (hello, said) = wire.device.heard().split_at(48);
-        assert_eq!(hello[20], 3);
+        assert_eq!(hello[20], mode as u8);
         let (execute, data, switch) = (device::packet(0x0d, &[3]), device::packet(0x0f, &[3]), device::packet(0x0c, &[0]));
         assert_eq!(said, [execute, data, switch].concat());
         assert_eq!((wire.device.queued(), wire.empty_reads), (next.len() as u64, 0));

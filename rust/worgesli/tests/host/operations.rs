@@ -9,6 +9,7 @@ fn packets() {
     let unk = [0; 6];
     let cases = [
         (device::hello(3), Body::HelloReq { ver: 2, compatible: 1, max_len: 4096, mode: Mode::Command, unk }),
+        (device::hello(1), Body::HelloReq { ver: 2, compatible: 1, max_len: 4096, mode: Mode::ImageTransferComplete, unk }),
         (
             device::packet(2, &[2, 1, 9, 2, 11, 12, 13, 14, 15, 16]),
             Body::HelloResp { ver: 2, compatible: 1, status: 9, mode: Mode::MemoryDebug, unk: [11, 12, 13, 14, 15, 16] },
@@ -38,7 +39,7 @@ fn packets() {
         }
     }
     let number = |b: &[u8]| parse_packet(b).unwrap_err().number();
-    assert_eq!(number(&device::hello(1)), 9);
+    assert_eq!(number(&device::hello(4)), 9);
     assert_eq!(number(&device::execute_resp(4, 0)), 9);
     assert_eq!(number(&device::packet(7, &[])), 8);
     assert_eq!(number(&device::packet(0x15, &[])), 6);

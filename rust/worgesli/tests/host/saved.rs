@@ -98,8 +98,10 @@ fn damaged_and_foreign_bytes() {
         assert_eq!(options.restore(&saved[..i]).unwrap_err(), RestoreError::Damaged, "{i} bytes");
     }
     assert_eq!(options.restore(&[saved.clone(), vec![0]].concat()).unwrap_err(), RestoreError::Damaged);
-    let other = Options::new(Backend::Serial, Mode::MemoryDebug).names(["a"]);
-    assert_eq!(other.restore(&saved).unwrap_err(), RestoreError::OtherOpening);
+    for (backend, mode) in [(Backend::Serial, Mode::MemoryDebug), (Backend::Usb, Mode::ImageTransferComplete)] {
+        let other = Options::new(backend, mode).names(["a"]);
+        assert_eq!(other.restore(&saved).unwrap_err(), RestoreError::OtherOpening);
+    }
     assert_eq!(options.clone().names(["b"]).restore(&saved).unwrap_err(), RestoreError::OtherBundles);
     assert_eq!(options.clone().images(&[None]).restore(&saved).unwrap_err(), RestoreError::OtherBundles);
     let too_many = vec![None; 65];

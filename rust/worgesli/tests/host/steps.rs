@@ -204,6 +204,6 @@ fn kept_as_numbers() {
     let s = Session::open(Mode::MemoryDebug, None, Backend::Usb);
     assert_eq!(Session::from_raw(*s.raw()), Some(s));
     assert_eq!(Session::from_raw(raw::Session { phase: 7, ..*s.raw() }), None);
-    assert_eq!(Session::from_raw(raw::Session { mode: 1, ..*s.raw() }), None);
+    assert_eq!(Session::from_raw(raw::Session { mode: 4, ..*s.raw() }), None);
     assert_eq!((s.wanted(), s.reads(), s.phase(), s.reply_len()), (8, 0, Phase::Packet, 0));
 }

@@ -1,0 +1,44 @@
+//! Mode 1, which the original does not have. By document 02 it is a mode like the others, so what is wanted is the original's run with mode 0 in its
+//! place, where it would refuse a hello of mode 1 or cannot be opened in it; only the answers of a session of mode 1 have 1 and not 0.
+use crate::events::{End, Event, What};
+use crate::original::{self, Original, Reads};
+use crate::talk::{command_of, word, Bundle, Talk};
+
+/// Where a hello and its response have their mode.
+pub const AT: usize = 20;
+/// The bytes of each that are decoded.
+const WHOLE: usize = 48;
+
+/// Whether these bytes are decoded as a hello, or as its response, of mode 1.
+pub fn says(packet: &[u8]) -> bool {
+    packet.len() >= WHOLE && matches!(command_of(packet), 1 | 2) && word(packet, AT) == 1
+}
+
+/// The original's run, and whether mode 1 had a part in it.
+pub fn run(t: &Talk, set: &Bundle) -> (Original, bool) {
+    let opened = t.mode == 1;
+    let mut other = Talk { mode: if opened { 0 } else { t.mode }, ..t.clone() };
+    let mut places = Vec::new();
+    let mut o = original::run(&other, set, Reads::Full);
+    while o.ran.end == End::Refused(9) && says(o.last_packet()) {
+        let place = o.packet.0 + AT;
+        other.opening[place] = 0;
+        places.push(place);
+        o = original::run(&other, set, Reads::Full);
+    }
+    for place in &places {
+        o.fed[*place] = 1;
+    }
+    if opened {
+        o.ran.events.iter_mut().chain(&mut o.steps).for_each(answer_in_mode_one);
+    }
+    (o, opened || !places.is_empty())
+}
+
+fn answer_in_mode_one(e: &mut Event) {
+    if let What::Sent(b) = &mut e.what {
+        if command_of(b) == 2 {
+            b[AT] = 1;
+        }
+    }
+}
