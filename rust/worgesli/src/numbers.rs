@@ -8,7 +8,7 @@ use std::fmt;
 pub enum Mode {
     /// load images
     WaitingForImage = 0,
-    /// nothing more: the images are there, as some boards say after a warm restart
+    /// no images: their transfer is complete, as some boards say after a warm restart
     ImageTransferComplete = 1,
     /// dump memory
     MemoryDebug = 2,
@@ -19,7 +19,9 @@ pub enum Mode {
 impl Mode {
     /// The mode of a number, if it has one.
     pub fn from_number(n: u32) -> Option<Mode> {
-        [Mode::WaitingForImage, Mode::ImageTransferComplete, Mode::MemoryDebug, Mode::Command].into_iter().find(|m| *m as u32 == n)
+        [Mode::WaitingForImage, Mode::ImageTransferComplete, Mode::MemoryDebug, Mode::Command]
+            .into_iter()
+            .find(|m| *m as u32 == n)
     }
 }
 

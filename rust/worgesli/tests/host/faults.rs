@@ -460,7 +460,7 @@ fn refusals_of_a_packet() {
     let image = [Some(vec![1; 10])];
     let two = [Some(vec![1; 10]), None];
     type Images<'a> = &'a [Option<Vec<u8>>];
-    let cases: [(u8, Vec<u8>, Images); 26] = [
+    let cases: [(u8, Vec<u8>, Images); 29] = [
         (5, packet(1, &[])[..4].iter().copied().chain([7, 0, 0, 0]).collect(), &image),
         (5, packet(1, &[])[..4].iter().copied().chain(4097u32.to_le_bytes()).collect(), &image),
         (6, packet(0x15, &[]), &image),

@@ -54,7 +54,8 @@ const MODES: [Mode; 4] = [Mode::WaitingForImage, Mode::ImageTransferComplete, Mo
 #[test]
 fn hello_response() {
     for (mode, offered) in MODES.into_iter().flat_map(|m| (0..4).map(move |o| (m, o))) {
-        let turns = vec![device::Turn::Say(device::hello(offered)), device::Turn::Hear(48), device::Turn::Say(device::reset_resp())];
+        let turns =
+            vec![device::Turn::Say(device::hello(offered)), device::Turn::Hear(48), device::Turn::Say(device::reset_resp())];
         let mut wire = Wire::new(Device::new(Memory::empty(), turns), Division::Random, 3);
         let end = sahara_run(&mut wire, &Options::new(Backend::Usb, mode), &mut Count::default(), |_| ());
         assert_eq!(end.unwrap(), Outcome::Reset);
