@@ -52,9 +52,32 @@ struct Lent<'a> {
     names: &'a [u8],
 }
 
+/// Where a conversation lies.
+#[derive(PartialEq)]
+enum Met {
+    /// inside the domain
+    Inside,
+    /// mode 1 has a part in it
+    ModeOne,
+    /// outside by another difference, or it differs
+    Outside,
+}
+
 impl Comparison {
-    /// One conversation. Gives all bytes that the device queued.
+    /// A conversation, and one of eight again with mode 1 in it. Gives all bytes that the device queued.
     fn compare(&mut self, t: &Talk) -> Vec<u8> {
+        let (o, met) = self.converse(t);
+        if met != Met::Outside {
+            self.sample.offer(t, &o, met == Met::Inside);
+        }
+        let n = self.kinds[t.kind].run;
+        if n % 8 == 0 {
+            self.converse(&mode_one::with(t, n / 8));
+        }
+        o.fed
+    }
+
+    fn converse(&mut self, t: &Talk) -> (Original, Met) {
         let (set, names) = (t.image_set(), t.name_list());
         let lent = Lent { talk: t, set: &set.bytes, names: &names.bytes };
         let (o, one) = mode_one::run(t, &set);
@@ -66,14 +89,18 @@ impl Comparison {
         if same {
             self.cut(&lent, &o);
         }
-        if one {
+        let met = match (one, same) {
+            (true, _) => Met::ModeOne,
+            (false, true) => Met::Inside,
+            (false, false) => Met::Outside,
+        };
+        if met == Met::ModeOne {
             *self.named.entry("mode-1").or_default() += 1;
-        } else if same {
+        } else if met == Met::Inside {
             self.kinds.entry(t.kind).or_default().inside += 1;
             *self.ends.entry(events::name_of(&o.ran.end)).or_default() += 1;
-            self.sample.offer(t, &o, lent.set, lent.names);
         }
-        o.fed
+        (o, met)
     }
 
     /// Deliveries of all that is queued. True where the original's run tells all of it, and it is the same.
@@ -154,10 +181,10 @@ impl Comparison {
 
     fn seeded(&mut self) {
         let mut g = Seeded::new(self.seed);
-        for _ in 0..60_000 {
+        for _ in 0..50_000 {
             self.compare(&g.soup());
         }
-        for _ in 0..22_000 {
+        for _ in 0..20_000 {
             for (t, damaged) in [
                 (g.transfer(), "damaged transfers"),
                 (g.command(), "damaged commands"),

@@ -9,6 +9,22 @@ pub const AT: usize = 20;
 /// The bytes of each that are decoded.
 const WHOLE: usize = 48;
 
+/// The same conversation with mode 1 in it: opened in it, or every hello of it, or both.
+pub fn with(t: &Talk, n: u64) -> Talk {
+    let mut t = Talk { kind: "with mode 1", ..t.clone() };
+    if n % 3 != 0 {
+        t.mode = 1;
+    }
+    let mut at = 0;
+    while let Some(packet) = t.opening.get_mut(at..).filter(|p| n % 3 != 1 && p.len() >= AT + 4) {
+        if matches!(command_of(packet), 1 | 2) {
+            packet[AT..AT + 4].copy_from_slice(&1u32.to_le_bytes());
+        }
+        at += word(packet, 4).max(8) as usize;
+    }
+    t
+}
+
 /// Whether these bytes are decoded as a hello, or as its response, of mode 1.
 pub fn says(packet: &[u8]) -> bool {
     packet.len() >= WHOLE && matches!(command_of(packet), 1 | 2) && word(packet, AT) == 1

@@ -25,12 +25,13 @@ pub struct Sample {
 }
 
 impl Sample {
-    /// Takes in one of eight conversations, if few of its kind ended as it did. The device's bytes are all that it queued.
-    pub fn offer(&mut self, t: &Talk, o: &Original, set: &[u8], names: &[u8]) {
+    /// Takes in one of eight conversations, if it is inside the domain and few of its kind ended as it did. The device's bytes are all that it queued.
+    pub fn offer(&mut self, t: &Talk, o: &Original, inside: bool) {
         self.seen += 1;
-        if mix(self.seen) % 8 != 0 {
+        if !inside || mix(self.seen) % 8 != 0 {
             return;
         }
+        let (set, names) = (t.image_set().bytes, t.name_list().bytes);
         let long = set.len() + names.len() + o.fed.len() > SMALL;
         let end = name_of(&o.ran.end);
         let empty_reads = o.steps.iter().filter(|e| e.what == What::EmptyRead).count();
@@ -43,7 +44,7 @@ impl Sample {
         let Some(told) = lines(o, size, None) else { return };
         *had += 1;
         *self.ends.entry(end).or_default() += 1;
-        self.add(t, size, [set, names, &o.fed], told);
+        self.add(t, size, [&set, &names, &o.fed], told);
     }
 
     fn add(&mut self, t: &Talk, size: usize, parts: [&[u8]; 3], told: Vec<String>) {
