@@ -72,8 +72,13 @@ impl Device {
 
     /// Offers its memory: Hello, then MemDebug64.
     pub fn dump(memory: Memory) -> Device {
+        Device::dump_after(hello(2), memory)
+    }
+
+    /// The same behind another hello.
+    pub fn dump_after(hello: Vec<u8>, memory: Memory) -> Device {
         let offer = mem_debug64(memory.table_at(), memory.table_len());
-        Device::new(memory, vec![Turn::Say(hello(2)), Turn::Hear(48), Turn::Say(offer)])
+        Device::new(memory, vec![Turn::Say(hello), Turn::Hear(48), Turn::Say(offer)])
     }
 
     /// Asks for images: each request is an image's ID, offset and length. It ends with `rest`, which is no Sahara any more.

@@ -293,7 +293,9 @@ fn fetches() {
             let temporary = Temporary::new();
             let faults = (build == Build::Checked && seed >= 5).then_some(seed);
             let call = Call { usb: seed % 2 == 0, faults, ..Call::new(build) };
-            let (said, device) = call.run(Device::dump(memory.clone()), seed, u64::MAX, &temporary.dump());
+            // of every mode that a device may offer
+            let device = Device::dump_after(hello(seed as u32 % 4), memory.clone());
+            let (said, device) = call.run(device, seed, u64::MAX, &temporary.dump());
             assert_eq!(said.status, Some(0), "{call:?} {said:?}");
             let files = temporary.files();
             assert_eq!(held(&files, &memory, &regions, &names), regions.len(), "{:?}", files.keys());

@@ -36,10 +36,8 @@ fn every_division_gives_the_memory() {
 fn warm_restart() {
     for seed in 0..400 {
         let w = world(seed);
-        let offer = device::mem_debug64(w.memory.table_at(), w.memory.table_len());
         for mode in [Mode::MemoryDebug, Mode::ImageTransferComplete] {
-            let turns = [device::Turn::Say(device::hello(1)), device::Turn::Hear(48), device::Turn::Say(offer.clone())];
-            let mut wire = Wire::new(Device::new(w.memory.clone(), turns.into()), Division::Random, seed);
+            let mut wire = Wire::new(Device::dump_after(device::hello(1), w.memory.clone()), Division::Random, seed);
             let mut sink = Record::default();
             let end = sahara_run(&mut wire, &Options::new(w.backend, mode).names(&w.names), &mut sink, |_| ());
             assert_eq!(end.unwrap(), Outcome::Dumped { reads: w.memory_reads() }, "seed {seed}");
