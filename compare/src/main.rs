@@ -67,6 +67,10 @@ impl Comparison {
     /// A conversation, and one of eight again with mode 1 in it. Gives all bytes that the device queued.
     fn compare(&mut self, t: &Talk) -> Vec<u8> {
         let (o, met) = self.converse(t);
+        if met == Met::Inside {
+            self.kinds.entry(t.kind).or_default().inside += 1;
+            *self.ends.entry(events::name_of(&o.ran.end)).or_default() += 1;
+        }
         if met != Met::Outside {
             self.sample.offer(t, &o, met == Met::Inside);
         }
@@ -96,9 +100,6 @@ impl Comparison {
         };
         if met == Met::ModeOne {
             *self.named.entry("mode-1").or_default() += 1;
-        } else if met == Met::Inside {
-            self.kinds.entry(t.kind).or_default().inside += 1;
-            *self.ends.entry(events::name_of(&o.ran.end)).or_default() += 1;
         }
         (o, met)
     }

@@ -4,10 +4,10 @@ use mathlib.Core.Bool.{Bool, true, false}
 use mathlib.Core.List.{List, [], _∷_}
 use Prim.Native.Nat.{ℕ, _<_, _≤_}
 use native.Mathlib.Omega.{arith}
-use borrow.Author.Tests.{ne-eqb}
-use lib.Dec.{T, ltb, ltb→lt}
+use borrow.Author.Tests.{eqb-true, ne-eqb}
+use lib.Dec.{T, eqb, ltb, ltb→lt}
 use Rattle.base.specs.Choice.{pick}
-use Rattle.base.proofs.Ranges.{both-left, both-right}
+use Rattle.base.proofs.Ranges.{by-test, both-left, both-right}
 use Rattle.command.specs.Command.{modeNumber, commandNumber, kindNumber, modeOf, commandOf, kinds, kindAmong, among, classOf}
 use Rattle.command.specs.declared.SaharaMode.{SaharaMode}
 use Rattle.command.specs.declared.SaharaMode.the-variants as M
@@ -37,6 +37,16 @@ command-back E.Nop = refl
 command-back E.ReadSerialNum = refl
 command-back E.ReadHwId = refl
 command-back E.ReadOemKeyHash = refl
+
+-- modes and commands have the numbers 0 to 3: by these, and by any other
+pub by-four : (A : ℕ → Type 0) (n : ℕ) → A 0 → A 1 → A 2 → A 3
+    → (eqb n 0 ≡ false → eqb n 1 ≡ false → eqb n 2 ≡ false → eqb n 3 ≡ false → A n)
+    → A n
+by-four A n a0 a1 a2 a3 other =
+    by-test (eqb n 0) (λ e. rw (eqb-true n 0 e) a0)
+    (λ e0. by-test (eqb n 1) (λ e. rw (eqb-true n 1 e) a1)
+    (λ e1. by-test (eqb n 2) (λ e. rw (eqb-true n 2 e) a2)
+    (λ e2. by-test (eqb n 3) (λ e. rw (eqb-true n 3 e) a3) (other e0 e1 e2))))
 
 -- so each is found by its number, some other by any other number
 abbrev pub modeIs : ModeOf → SaharaMode

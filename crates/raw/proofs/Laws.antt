@@ -10,7 +10,7 @@ use Rattle.base.specs.Choice.{pick}
 use Rattle.base.proofs.Ranges.{by-test, by-then}
 use Rattle.command.specs.Command.{modeNumber, modeOf, commandOf}
 use Rattle.command.specs.declared.SaharaMode.{SaharaMode}
-use Rattle.command.proofs.Laws.{mode-back, command-back}
+use Rattle.command.proofs.Laws.{mode-back, command-back, by-four}
 use Rattle.verdict.specs.declared.QdlBackend.{QdlBackend}
 use Rattle.verdict.specs.declared.QdlBackend.the-variants as U
 use Rattle.verdict.specs.declared.ExecCommand.{ExecCommand}
@@ -118,20 +118,14 @@ no e = true≢false (sym e)
 mode-kept : (n : ℕ) → isMode n ≡ true → modeNumber (modeIn (modeOf n)) ≡ n
 unfolding modeOf
 mode-kept n h =
-    by-test (eqb n 0) (λ e. rw (eqb-true n 0 e) refl)
-    (λ e0. by-test (eqb n 1) (λ e. rw (eqb-true n 1 e) refl)
-    (λ e1. by-test (eqb n 2) (λ e. rw (eqb-true n 2 e) refl)
-    (λ e2. by-test (eqb n 3) (λ e. rw (eqb-true n 3 e) refl)
-    (λ e3. absurd (no (rw (e0, e1, e2, e3) at h))))))
+    by-four (λ (k : ℕ). isMode k ≡ true → modeNumber (modeIn (modeOf k)) ≡ k) n (λ t. refl) (λ t. refl) (λ t. refl) (λ t. refl)
+    (λ e0 e1 e2 e3 t. absurd (no (rw (e0, e1, e2, e3) at t))) h
 
 exec-kept : (n : ℕ) → isExec n ≡ true → execNumber (execIn (commandOf n)) ≡ n
 unfolding commandOf
 exec-kept n h =
-    by-test (eqb n 0) (λ e. rw (eqb-true n 0 e) refl)
-    (λ e0. by-test (eqb n 1) (λ e. rw (eqb-true n 1 e) refl)
-    (λ e1. by-test (eqb n 2) (λ e. rw (eqb-true n 2 e) refl)
-    (λ e2. by-test (eqb n 3) (λ e. rw (eqb-true n 3 e) refl)
-    (λ e3. rw (e0, e1, e2, e3) (sym (eqb-true n 0xFFFFFFFF (rw (e0, e1, e2, e3) at h)))))))
+    by-four (λ (k : ℕ). isExec k ≡ true → execNumber (execIn (commandOf k)) ≡ k) n (λ t. refl) (λ t. refl) (λ t. refl) (λ t. refl)
+    (λ e0 e1 e2 e3 t. rw (e0, e1, e2, e3) (sym (eqb-true n 0xFFFFFFFF (rw (e0, e1, e2, e3) at t)))) h
 
 below-two : (n : ℕ) → ltb n 2 ≡ true → eqb n 1 ≡ false → n ≡ 0
 below-two n h e = omega (arith, ltb-true n 2 h, eqb-false n 1 e)

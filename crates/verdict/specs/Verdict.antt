@@ -61,7 +61,7 @@ room tsize = min 65536 tsize
 abbrev pub tableFor : ℕ → ℕ → ℕ → Verdict
 tableFor tsize a k = pick (ltb (room tsize) k) (W.Refused 17) (W.Debug a k)
 
--- by the kind (`kindIn` of packet/specs/Packet: HelloReq is Hello, ReadReq ReadData, ReadData64Req ReadData64, Eoi EndOfImage, DoneReq Done, ExecResp ExecuteResp, Command
+-- by the kind (`kindIn` of packet/specs/Packet: HelloReq is Hello, ReadReq ReadData, ReadData64Req ReadData64, Eoi EndOfImage, DoneReq Done, ExecResp ExecuteResp, ExecData
 -- ExecuteData, Debug64Req MemDebug64, ReadMem64Req MemRead64); u is what the session was opened with, len the length field, tsize and rsize the table and the reply
 -- buffer's sizes. DoneResp and ExecuteResp may have any good length from that of their least packet on, 12 and 16 bytes
 abbrev pub onBody : Opening → List ℕ → ℕ → ℕ → ℕ → SaharaPacketBody → Verdict

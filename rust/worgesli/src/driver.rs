@@ -201,6 +201,7 @@ impl Driver {
             self.close_region(sink, place)?;
         }
         self.owed = Owed::Nothing;
+        self.table_len = self.table().len();
         match self.session.closed() {
             Answer::Refused(why) => Ok(why),
             _ => unreachable!("closing is a refusal"),

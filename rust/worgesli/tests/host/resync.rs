@@ -158,6 +158,27 @@ fn names_chosen_by_the_table() {
     assert_eq!(options.restore(&run.save()).unwrap().table(), run.table());
 }
 
+/// Of a table that did not come whole, what came is there and no more: while it is waited for, when the run is given up, and when it is restored.
+#[test]
+fn part_of_a_table() {
+    let w = two_regions(Backend::Serial);
+    for came in 0..192 {
+        let mut wire = Wire::new(Device::dump(w.memory.clone()), Division::Random, came);
+        wire.faults.ends_after = Some(48 + 24 + came);
+        let mut sink = Record::default();
+        let options = w.options();
+        let mut run = options.start().unwrap();
+        assert!(matches!(run.run(&mut wire, &mut sink, |_| ()), Err(Error::NoBytes)));
+        let there = |run: &Driver| (run.table().to_vec(), run.entries().count());
+        let wanted = (w.memory.bytes(1 << 40, came as usize), came as usize / 64);
+        assert_eq!(there(&run), wanted);
+        assert_eq!(there(&options.restore(&run.save()).unwrap()), wanted);
+        assert_eq!(run.close(&mut sink).unwrap().number(), 23);
+        assert_eq!(there(&run), wanted);
+        assert_eq!(there(&options.restore(&run.save()).unwrap()), wanted);
+    }
+}
+
 /// Silent at one byte for some reads, and then it goes on.
 struct Pauses(Wire, u64, u32);
 
