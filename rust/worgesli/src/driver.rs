@@ -192,7 +192,7 @@ impl Driver {
         end.or_else(|why| self.hand_over_behind(&why, sink).and(Err(why)))
     }
 
-    /// Gives up: what was gathered is handed over, a region that came whole is closed, and so is the session; nothing more is sent. Gives the
+    /// Gives up: what was gathered is handed over, a region's close that is owed is made, and the session is closed; nothing more is sent. Gives the
     /// refusal: 23, or 4 where it had ended.
     pub fn close<S: Sink + ?Sized>(&mut self, sink: &mut S) -> Result<Refusal, Error> {
         self.reopen(sink)?;
