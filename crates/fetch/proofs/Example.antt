@@ -17,7 +17,7 @@ use Rattle.selection.specs.Selection.{low, namesFrom, same, member, selected, n
 use Rattle.command.specs.Command.{modeOf, kinds, unimplemented, classOf}
 use Rattle.command.specs.declared.SaharaMode.the-variants as M
 use Rattle.packet.specs.Packet.{kindOf, decodeOf}
-use Rattle.build.specs.Build.{fields, words, longs, bytesOf}
+use Rattle.build.specs.Build.{fields, words, bytesOf}
 use Rattle.build.specs.declared.Request.the-variants as Q
 use Rattle.verdict.specs.Opening.{chunkOf, onUsb}
 use Rattle.verdict.specs.Verdict.{verdictOf}

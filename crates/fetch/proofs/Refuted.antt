@@ -18,7 +18,7 @@ use Rattle.filename.specs.Filename.{before, has, openCheck, afterOpenCheck, sou
 use Rattle.selection.specs.Selection.{same, selected, nextOf}
 use Rattle.command.specs.Command.{kinds, classOf}
 use Rattle.packet.specs.Packet.{kindOf, decodeOf}
-use Rattle.build.specs.Build.{fields, words, longs, bytesOf}
+use Rattle.build.specs.Build.{fields, words, bytesOf}
 use Rattle.build.specs.declared.Request.the-variants as Q
 use Rattle.verdict.specs.Opening.{chunkOf}
 use Rattle.verdict.specs.Verdict.{verdictOf}
