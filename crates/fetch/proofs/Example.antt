@@ -2,7 +2,6 @@
 -- either width on both backends and three that do not, and a list of odd deliveries and of steps refused, lent some of the run's own things and some others, runs
 -- on it, with its whole report. Assumes nothing.
 use mathlib.Core.Path.{_≡_, refl, _∙_}
-use mathlib.Core.Bool.{true}
 use mathlib.Core.List.{List, [], _∷_, _++_, map}
 use Prim.Native.Nat.{ℕ, _+_, _-_, _*_, _%_, _^_, _≤_}
 use native.Mathlib.Omega.{arith}
