@@ -112,15 +112,15 @@ module _ (f : ℕ) (b t : List ℕ) (n : ℕ) (e : take n b ≡ t) (l : n ≤ le
 -- ---- the laws of the plain host's regions
 
 module _ (v : Width) (u : Opening) where
-  abbrev lengthIn : List ℕ → ℕ → ℕ
-  lengthIn t i = lengthOf (fieldSize v) (entryOf (fieldSize v) t i)
+  abbrev lengthAt : List ℕ → ℕ → ℕ
+  lengthAt t i = lengthOf (fieldSize v) (entryOf (fieldSize v) t i)
 
   module _ (mem : ℕ → ℕ) where
     regions-cons : (t : List ℕ) (i : ℕ) (is : List ℕ) (r : ℕ)
         → regions v u mem t (i ∷ is) r
         ≡ opened i
-        ∷ (chunks v u mem (lengthIn t i) (baseOf (fieldSize v) (entryOf (fieldSize v) t i)) (lengthIn t i)
-        ++ (closed i ∷ regions v u mem t is (r + chunkCount u (lengthIn t i))))
+        ∷ (chunks v u mem (lengthAt t i) (baseOf (fieldSize v) (entryOf (fieldSize v) t i)) (lengthAt t i)
+        ++ (closed i ∷ regions v u mem t is (r + chunkCount u (lengthAt t i))))
     unfolding regions
     regions-cons t i is r = refl
 
@@ -133,7 +133,7 @@ module _ (v : Width) (u : Opening) where
     open-law i b l y = rw (no-bytes, sub-zero l, add-zero b) refl
 
   cost-cons : (t : List ℕ) (i : ℕ) (is : List ℕ)
-      → cost v u t (i ∷ is) ≡ boundIn u (region i 0 (lengthIn t i) 0 0 false) + 2 + cost v u t is
+      → cost v u t (i ∷ is) ≡ boundIn u (region i 0 (lengthAt t i) 0 0 false) + 2 + cost v u t is
   unfolding cost regionBytes regionReads
   cost-cons t i is = rw sub-zero (omega arith)
 

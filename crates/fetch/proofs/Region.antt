@@ -3,7 +3,7 @@
 use mathlib.Core.Path.{_≡_, refl, sym, ap, _∙_}
 use mathlib.Core.Bool.{true, false, not, _&&_, _||_}
 use mathlib.Core.List.{List, [], _∷_, _++_, map, append-assoc, append-nil, map-append}
-use Prim.Native.Nat.{ℕ, zero, suc, _+_, _-_, _/_, _%_, _^_, _≤_, _<_, min}
+use Prim.Native.Nat.{ℕ, zero, suc, _+_, _-_, _*_, _/_, _%_, _^_, _≤_, _<_, min}
 use native.Mathlib.Omega.{arith}
 use native.Mathlib.Nat.{add-zero, add-assoc}
 use lib.Dec.{eqb, ltb, leb}
@@ -26,7 +26,7 @@ use Rattle.session.specs.RegionPhase.{emptied, dueAfter, nextChunk, askOf, hand
 use Rattle.session.specs.Limits.{readsLimit, phaseLimit}
 use Rattle.steps.specs.Steps.{one}
 use Rattle.fetch.specs.Plain.{Report, byte, sent, emptyRead, bytesAt, Debug, Ending, chunk, chunks, chunkCount, Setting}
-use Rattle.fetch.proofs.Chunk.{Chunk, reads-within, chunk-good, chunk-some, count-none, count-step}
+use Rattle.fetch.proofs.Chunk.{Chunk, mostReads, reads-within, chunk-good, chunk-some, count-none, count-step}
 use Rattle.fetch.proofs.Ghost.{Ghost}
 use Rattle.base.proofs.Tests.{and-true, and-false}
 use Rattle.fetch.proofs.Basics.{one-le}
@@ -167,9 +167,10 @@ module _ (c : Setting) (dbg : Debug) (en : Ending) (k : ℕ) (x : Region) (w : G
 
   pub limits : (readsLimit (w .session) || phaseLimit (fieldSize v) (w .session .window) (P.Region k x) (w .table) (w .reply)) ≡ false
   limits =
+      let r : w .session .reads ≤ 1 + suc (x .entry) * mostReads v = omega (arith, g .reads) in
       rw (
         g .declared,
-        le-ltb (2 ^ 63 + 1) (w .session .reads) (reads-within v (w .session .reads) (dbg .size) (suc (x .entry)) (omega (arith, g .reads)) (g .entry) (omega (arith, g .fits))),
+        le-ltb (2 ^ 63 + 1) (w .session .reads) (reads-within v (w .session .reads) (dbg .size) (suc (x .entry)) r (g .entry) (omega (arith, g .fits))),
         le-ltb (length (w .table)) (dbg .size) (omega (arith, g .fits)),
         lt-leb ((dbg .size) / entrySize (fieldSize v)) (x .entry) (g .entry),
         le-ltb (x .len) (x .done + x .outstanding) (g .within),

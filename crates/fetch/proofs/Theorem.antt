@@ -31,7 +31,6 @@ use Rattle.fetch.specs.Plain.{
   fieldIn,
   Ending,
   Stopped,
-  Responded,
   Debugged,
   stop,
   hear,

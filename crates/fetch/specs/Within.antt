@@ -39,8 +39,8 @@ pub record Within {S : Type 0} (f : ℕ) (r : Given S) (d set t y o : List ℕ) 
 -- of a host's step, from a state of this width
 abbrev pub StepWithin : (h : Host) → (h .State → Width) → (c : Setting) → World (h .State) → Lent → Type 0
 StepWithin h width c w l =
-    Within (fieldSize (width (w .state))) (made h c w l) (delivered (l .delivery) (w .queue)) (lent (l .set) (c .set)) (lent (l .table) (w .table)) (lent (l .reply) (w .reply))
-    (lent (l .out) (w .out))
+    Within (fieldSize (width (w .state))) (made h c w l) (delivered (l .delivery) (w .queue)) (lent (l .set) (c .set)) (lent (l .table) (w .table))
+    (lent (l .reply) (w .reply)) (lent (l .out) (w .out))
 
 -- finished (4) leaves the reply's length in the session: so many bytes of the reply buffer y that was lent then
 abbrev pub replyWithin : Phase → List ℕ → Type 0
