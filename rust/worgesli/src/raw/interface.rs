@@ -1,7 +1,7 @@
 //! This crate's side of the C interface, held to the Rattle source as tools/interface reads it.
 use super::*;
 use crate::session::answer;
-use crate::{Backend, Command, Mode, Phase};
+use crate::{Backend, Command, Mode, Phase, Width};
 use std::fmt::Debug;
 
 const SOURCE: &str = include_str!("../raw.rs");
@@ -85,7 +85,7 @@ fn functions_are_those_of_the_source() {
 #[test]
 fn number_of_the_interface() {
     assert_eq!(lines("abi"), [[ABI.to_string()]]);
-    assert_eq!([worgesli_abi(), worgesli_abi_1()], [ABI; 2]);
+    assert_eq!([worgesli_abi(), worgesli_abi_2()], [ABI; 2]);
     assert!(SOURCE.contains(&format!("= worgesli_abi_{ABI};")));
 }
 
@@ -111,6 +111,7 @@ fn numbers_are_those_of_the_source() {
     commands.push(("None".into(), NO_COMMAND));
     assert_eq!(numbers("command"), commands);
     assert_eq!(numbers("backend"), [Backend::Serial, Backend::Usb].map(|b| (case(b), b as u32)));
+    assert_eq!(numbers("width"), Width::BOTH.map(|w| (case(w), w as u32)));
     // a session in each phase, all its other numbers 0
     let phase = |n| crate::Session::from_raw(Session { phase: n, ..worgesli_open(0, NO_COMMAND, 0) }).map(|s| s.phase());
     assert_eq!(numbers("phase"), named(phase));
