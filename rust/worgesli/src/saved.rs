@@ -269,3 +269,36 @@ fn sound(d: &Driver) -> bool {
             _ => entry(d.place) && d.from as u64 <= d.done(),
         }
 }
+
+#[cfg(test)]
+mod tests {
+    use super::*;
+    use crate::{Backend, Mode};
+
+    /// The same bytes with another number at a place, and the sum of them.
+    fn with(saved: &[u8], at: usize, number: u64) -> Vec<u8> {
+        let mut to = saved[..saved.len() - DIGEST].to_vec();
+        to[at..at + 8].copy_from_slice(&number.to_le_bytes());
+        let sum = digest(&[&to]);
+        to.extend(sum);
+        to
+    }
+
+    #[test]
+    fn forms_and_widths_that_are_none() {
+        let options = Options::new(Backend::Usb, Mode::MemoryDebug);
+        let saved = options.start().unwrap().save();
+        let form = MAGIC.len();
+        for other in [0, 3, u64::MAX] {
+            assert_eq!(options.restore(&with(&saved, form, other)).unwrap_err(), RestoreError::Version(other));
+        }
+        // without a width these bytes are too many
+        assert_eq!(options.restore(&with(&saved, form, WITHOUT_WIDTH)).unwrap_err(), RestoreError::Damaged);
+        let width = form + 8 + DIGEST + 12 * 8;
+        assert_eq!(with(&saved, width, 64), saved);
+        assert_eq!(options.restore(&with(&saved, width, 32)).unwrap().session().width(), Width::Bits32);
+        for other in [0, 33, 1 << 32 | 32, u64::MAX] {
+            assert_eq!(options.restore(&with(&saved, width, other)).unwrap_err(), RestoreError::Damaged);
+        }
+    }
+}

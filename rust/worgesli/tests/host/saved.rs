@@ -1,6 +1,6 @@
 //! Runs that are written to bytes and read back, and regions that are lost.
-use crate::world::{worlds, Record, World};
-use device::{Device, Division, Faults, Memory, Region, Rng, Width, Wire};
+use crate::world::{worlds, Kept, Record, World};
+use device::{Device, Division, Faults, Memory, Region, Rng, Turn, Width, Wire};
 use std::io::{self, ErrorKind};
 use worgesli::{Backend, Command, Count, Driver, Entry, Error, Mode, Options, Outcome, RestoreError, Sink, Unkept};
 
@@ -107,6 +107,35 @@ fn damaged_and_foreign_bytes() {
         let too_many = vec![None; 65];
         assert!(matches!(options.images(&too_many).restore(&saved), Err(RestoreError::Refused(why)) if why.number() == 1));
     }
+}
+
+/// A run of the crate before, which knew devices of 64 bits alone, saved when 200 bytes of a region had come and 150 were the sink's: it goes on to
+/// its end, and is saved in the form of today.
+#[test]
+fn saved_in_the_form_before() {
+    let digits: String = include_str!("form-1.hex").split_whitespace().collect();
+    let saved: Vec<u8> = (0..digits.len()).step_by(2).map(|i| u8::from_str_radix(&digits[i..i + 2], 16).unwrap()).collect();
+    let base = 1 << 32;
+    let regions = vec![Region::new("A.BIN", 7, 5000), Region::new("B.BIN", base, 5000)];
+    let table = regions.iter().flat_map(|r| r.bytes(Width::Bits64)).collect();
+    let w = World { memory: Memory::mixed(2, 1 << 40, table), regions, names: vec!["b".into()], backend: Backend::Usb };
+    let mut run = w.options().restore(&saved).unwrap();
+    assert_eq!((run.session().width(), run.session().raw().done), (worgesli::Width::Bits64, 200));
+    // the form's number, and the width behind twelve other numbers of the session
+    let (mut now, again) = (saved.clone(), run.save());
+    now[8] = 2;
+    let at = 8 + 8 + 32 + 12 * 8;
+    now.splice(at..at, 64u64.to_le_bytes());
+    let end = now.len() - 32;
+    assert_eq!((again.len(), &again[..end]), (now.len(), &now[..end]));
+    assert_eq!(w.options().restore(&again).unwrap().save(), again);
+    let kept = Kept { place: 1, filename: w.regions[1].filename, bytes: w.memory.bytes(base, 150), closed: false };
+    let mut sink = Record(vec![kept]);
+    let rest = w.memory.bytes(base + 200, 4096 - 200);
+    let mut wire = Wire::new(Device::new(w.memory.clone(), vec![Turn::Say(rest)]), Division::Random, 1);
+    assert_eq!(run.run(&mut wire, &mut sink, |_| ()).unwrap(), Outcome::Dumped { reads: 3 });
+    assert_eq!(sink.0, w.kept());
+    assert_eq!((wire.device.wrong(), wire.device.reads(), wire.device.queued()), (None, 1, 0));
 }
 
 /// A sink that cannot go on with a region of another process says so each time; nothing is lost by it.
