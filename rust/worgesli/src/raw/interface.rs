@@ -82,6 +82,21 @@ fn functions_are_those_of_the_source() {
     assert_eq!(ours, theirs.collect::<Vec<_>>());
 }
 
+/// The arrays that are lent to a step in place, or to what it wants, are the session's parts, no longer than they are.
+#[test]
+fn parts_of_a_session() {
+    let ends = [0, offset_of!(Session, reads), offset_of!(Session, window), size_of::<Session>()];
+    let lent: Vec<_> = lines("function").into_iter().filter(|f| f[0].ends_with("_in_place")).collect();
+    assert_eq!(lent.len(), 2);
+    for f in lent {
+        for (i, (name, element, size)) in [("head", "u32", 4), ("numbers", "u64", 8), ("window", "u8", 1)].into_iter().enumerate()
+        {
+            let array = format!("[{element};{}]", (ends[i + 1] - ends[i]) / size);
+            assert!([format!("{name}:&mut{array}"), format!("{name}:&{array}")].contains(&f[2 + i]), "{f:?}: {array}");
+        }
+    }
+}
+
 #[test]
 fn number_of_the_interface() {
     assert_eq!(lines("abi"), [[ABI.to_string()]]);
