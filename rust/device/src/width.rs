@@ -13,6 +13,11 @@ pub enum Width {
 impl Width {
     pub const BOTH: [Width; 2] = [Width::Bits32, Width::Bits64];
 
+    /// Each of these with each width.
+    pub fn with_both<T: Clone>(cases: impl IntoIterator<Item = T>) -> impl Iterator<Item = (T, Width)> {
+        cases.into_iter().flat_map(|case| Width::BOTH.map(|width| (case.clone(), width)))
+    }
+
     pub fn bits(self) -> u32 {
         match self {
             Width::Bits32 => 32,

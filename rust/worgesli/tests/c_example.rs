@@ -104,7 +104,7 @@ fn builds() -> Vec<Build> {
 
 /// Each of them with a board of each width, which nobody tells it.
 fn boards() -> Vec<(Build, Width)> {
-    builds().into_iter().flat_map(|build| Width::BOTH.map(|width| (build, width))).collect()
+    Width::with_both(builds()).collect()
 }
 
 // ---- a run

@@ -74,7 +74,7 @@ fn images_and_replies() {
 #[test]
 fn tables_of_each_length() {
     let lens = [0, 1, 51, 52, 53, 63, 64, 65, 4096, 65_472, 65_520, 65_535, 65_536];
-    for (len, width) in lens.into_iter().flat_map(|len| Width::BOTH.map(|width| (len, width))) {
+    for (len, width) in Width::with_both(lens) {
         let memory = Memory::with_table(1, width.half(), vec![0; len]).wide(width);
         let mut wire = Wire::new(Device::dump(memory), Division::Random, len as u64);
         let mut driver = Options::new(Backend::Usb, Mode::MemoryDebug).start().unwrap();

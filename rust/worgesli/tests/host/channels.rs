@@ -81,7 +81,7 @@ fn pty_world(width: Width, len: u64) -> World {
 /// A tty as a system leaves it, cooked and echoing, is set raw: every byte goes through as it is, both ways.
 #[test]
 fn serial() {
-    for (seed, width) in (0..6).flat_map(|seed| Width::BOTH.map(|width| (seed, width))) {
+    for (seed, width) in Width::with_both(0..6) {
         let w = pty_world(width, 50_000 + seed);
         let (pty, near) = Pty::open().unwrap();
         assert!(!pty.raw());

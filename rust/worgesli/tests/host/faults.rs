@@ -109,9 +109,7 @@ fn time_outs_in_a_row() {
             self.0.flush()
         }
     }
-    for ((borne, good), width) in
-        [(0, false), (2, false), (3, true), (4, true)].into_iter().flat_map(|case| Width::BOTH.map(|width| (case, width)))
-    {
+    for ((borne, good), width) in Width::with_both([(0, false), (2, false), (3, true), (4, true)]) {
         let w = World::new(width, Backend::Usb, &[Region::new("A.BIN", 0, 9000)]);
         let mut channel = Silent(Wire::new(Device::dump(w.memory.clone()), Division::AtMost(1000), 1), 3);
         let mut sink = Count::default();
@@ -127,7 +125,7 @@ fn time_outs_in_a_row() {
 /// beginning of what was due.
 #[test]
 fn gone_after_each_byte() {
-    for (width, backend) in Width::BOTH.into_iter().flat_map(|w| [(w, Backend::Serial), (w, Backend::Usb)]) {
+    for (backend, width) in Width::with_both([Backend::Serial, Backend::Usb]) {
         let high = width.end_less(513);
         let w = World::new(
             width,
@@ -434,7 +432,7 @@ fn empty_reads_that_fail() {
         }
     }
     let kinds = [ErrorKind::TimedOut, ErrorKind::WouldBlock, ErrorKind::BrokenPipe, ErrorKind::InvalidInput, ErrorKind::Other];
-    for (kind, width) in kinds.into_iter().flat_map(|kind| Width::BOTH.map(|width| (kind, width))) {
+    for (kind, width) in Width::with_both(kinds) {
         let w = World::new(width, Backend::Usb, &[Region::new("A", 0, 8192)]);
         let mut channel = NoEmptyPackets(Wire::new(Device::dump(w.memory.clone()), Division::Random, 1), kind, 0);
         let mut sink = Count::default();

@@ -1,5 +1,5 @@
 //! The driver against the device, over divisions at random.
-use crate::world::{worlds, Record, World};
+use crate::world::{host_width, worlds, Record, World};
 use device::{Device, Division, Memory, Region, Rng, Width, Wire};
 use worgesli::{sahara_run, Backend, Command, Count, Mode, Options, Outcome, Progress};
 
@@ -135,7 +135,7 @@ fn progress() {
         }
         assert!(seen.iter().all(|p| p.place < 2));
         // what the device is stays known behind the end
-        assert_eq!((driver.session().width(), driver.table()), (w.entries(), w.memory.table()));
+        assert_eq!((driver.session().width(), driver.table()), (host_width(w.width()), w.memory.table()));
         assert_eq!(driver.entries().map(|e| (e.base, e.len)).collect::<Vec<_>>(), [(0, 10_000), (high, 4096), (5, 0)]);
     }
 }

@@ -1,13 +1,8 @@
 //! The single operations: packets, bundles, images, entries, selection, UTF-8.
 use crate::guard::{Guarded, Side};
-use crate::world::worlds;
+use crate::world::{host_width, worlds};
 use device::{Region, Rng};
 use worgesli::{entry_at, next_selected, parse_packet, raw, reset, utf8, Body, Command, ImageSet, Mode, NameList, Width, SLOTS};
-
-/// A region's entry in a table of this width, and the width as the host names it.
-fn entry_of(region: &Region, width: device::Width) -> (Vec<u8>, Width) {
-    (region.bytes(width), Width::from_number(width.bits().into()).unwrap())
-}
 
 #[test]
 fn packets() {
@@ -101,18 +96,18 @@ fn images() {
 fn tables() {
     for (seed, w) in worlds(0..2000) {
         let table = Guarded::new(&w.memory.bytes(w.memory.table_at(), w.memory.table_len() as usize), Side::Behind);
-        let n = w.regions.len();
+        let (n, width) = (w.regions.len(), host_width(w.width()));
         for (i, r) in w.regions.iter().enumerate() {
-            let e = entry_at(&table, w.entries(), i).unwrap();
+            let e = entry_at(&table, width, i).unwrap();
             assert_eq!((e.save_pref, e.base, e.len), (r.save_pref, r.base, r.len));
             assert_eq!((e.description, e.filename), (r.description, r.filename));
             assert!(e.name().unwrap().ends_with(".BIN"));
         }
-        assert_eq!(entry_at(&table, w.entries(), n), None);
-        assert_eq!(entry_at(&table, w.entries(), usize::MAX), None);
+        assert_eq!(entry_at(&table, width, n), None);
+        assert_eq!(entry_at(&table, width, usize::MAX), None);
         let names = NameList::new(&w.names).unwrap();
         let mut found = Vec::new();
-        while let Some(i) = next_selected(&table, w.entries(), n, &names, found.last().map_or(0, |i| i + 1)) {
+        while let Some(i) = next_selected(&table, width, n, &names, found.last().map_or(0, |i| i + 1)) {
             found.push(i);
         }
         assert_eq!(found, w.selected(), "seed {seed}, {w:?}");
@@ -172,8 +167,8 @@ fn numbers_that_are_no_width() {
 fn more_entries_than_the_table_has() {
     let names = |names: &[&str]| NameList::new(names).unwrap();
     let lists = [(names(&[]), Some(1)), (names(&["a"]), Some(0)), (names(&["c"]), None)];
-    for ((list, found), of) in lists.into_iter().flat_map(|case| device::Width::BOTH.map(|of| (case.clone(), of))) {
-        let (mut table, width) = entry_of(&Region::new(b"A.BIN", 0, 1).unpreferred(), of);
+    for ((list, found), of) in device::Width::with_both(lists) {
+        let (mut table, width) = (Region::new(b"A.BIN", 0, 1).unpreferred().bytes(of), host_width(of));
         table.extend(Region::new(b"B.BIN", 0, 1).bytes(of));
         assert_eq!(next_selected(&table, width, usize::MAX, &list, 0), found);
         assert_eq!(next_selected(&table[..table.len() - 1], width, usize::MAX, &list, 1), None);
@@ -189,8 +184,8 @@ fn more_entries_than_the_table_has() {
 fn stems() {
     let selects = |filename: &[u8], name: &str| {
         let selected = device::Width::BOTH.map(|of| {
-            let (table, width) = entry_of(&Region::new(filename, 0, 1), of);
-            next_selected(&table, width, 1, &NameList::new(&[name]).unwrap(), 0) == Some(0)
+            let (table, names) = (Region::new(filename, 0, 1).bytes(of), NameList::new(&[name]).unwrap());
+            next_selected(&table, host_width(of), 1, &names, 0) == Some(0)
         });
         assert_eq!(selected[0], selected[1]);
         selected[0]

@@ -11,10 +11,10 @@ fn two_regions(width: Width, backend: Backend) -> World {
 
 /// On both backends of both boards.
 fn all_of_two_regions() -> impl Iterator<Item = World> {
-    Width::BOTH.into_iter().flat_map(|width| [Backend::Serial, Backend::Usb].map(|backend| two_regions(width, backend)))
+    Width::with_both([Backend::Serial, Backend::Usb]).map(|(backend, width)| two_regions(width, backend))
 }
 
-/// The bytes of a whole dump of them: those before the table, and all.
+/// Where the table's and the regions' bytes stand in all that the device says.
 fn bytes_of(w: &World) -> std::ops::Range<u64> {
     w.opening()..w.opening() + w.memory.table_len() + 9000 + 4608
 }
@@ -88,7 +88,7 @@ fn an_older_run() {
 #[test]
 fn an_older_run_into_files() {
     let saves = [(6, 3), (8, 15), (12, 1), (12, 20), (14, 9), (22, 12), (34, 4)];
-    for ((first, then), width) in saves.into_iter().flat_map(|save| Width::BOTH.map(|width| (save, width))) {
+    for ((first, then), width) in Width::with_both(saves) {
         let w = two_regions(width, Backend::Usb);
         let options = w.options();
         let t = Temporary::new();
@@ -121,7 +121,7 @@ fn an_older_run_into_files() {
 #[test]
 fn a_byte_is_lost_into_files() {
     let lost = [0, 1, 700, 4095, 4096, 5000, 8999, 9000, 9512, 13_607];
-    for (at, width) in lost.into_iter().flat_map(|at| Width::BOTH.map(|width| (at, width))) {
+    for (at, width) in Width::with_both(lost) {
         let w = two_regions(width, Backend::Usb);
         let t = Temporary::new();
         let faults = Faults { loses: Some(w.opening() + w.memory.table_len() + at), ..Faults::default() };
@@ -221,7 +221,7 @@ impl std::io::Write for Pauses {
 #[test]
 fn late_bytes() {
     let hosts = [(Backend::Serial, 0), (Backend::Usb, 0), (Backend::Serial, 2)];
-    for ((backend, timeouts), width) in hosts.into_iter().flat_map(|host| Width::BOTH.map(|width| (host, width))) {
+    for ((backend, timeouts), width) in Width::with_both(hosts) {
         let w = two_regions(width, backend);
         for at in bytes_of(&w).step_by(61) {
             // the pause outlasts the run and the hearing out

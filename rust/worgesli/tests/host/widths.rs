@@ -1,15 +1,19 @@
 //! What is particular to boards of 32 bits, beside those of 64: tables, and regions at the end of all addresses.
 use crate::files::Temporary;
-use crate::world::{Record, World};
+use crate::world::{host_width, Record, World};
 use device::{Device, Division, Faults, Memory, Region, Turn, Width, Wire};
 use std::fs;
 use worgesli::{sahara_run, Backend, Count, Error, Folder, Mode, Options, Outcome, Phase, State};
 
-const DIVISIONS: [Division; 4] = [Division::Whole, Division::AtMost(1), Division::AtMost(511), Division::Random];
+/// Each division with each backend.
+fn divisions() -> impl Iterator<Item = (Division, Backend)> {
+    let divisions = [Division::Whole, Division::AtMost(1), Division::AtMost(511), Division::Random];
+    divisions.into_iter().flat_map(|d| [(d, Backend::Serial), (d, Backend::Usb)])
+}
 
-/// A whole fetch over each division, by each backend.
+/// Whole fetches from a device with this memory.
 fn fetched(width: Width, memory: impl Fn() -> Memory, regions: &[Region], names: &[&str]) {
-    for (division, backend) in DIVISIONS.into_iter().flat_map(|d| [(d, Backend::Serial), (d, Backend::Usb)]) {
+    for (division, backend) in divisions() {
         let names = names.iter().map(|n| n.to_string()).collect();
         let w = World { memory: memory(), regions: regions.to_vec(), names, backend };
         assert_eq!(w.width(), width);
@@ -94,7 +98,7 @@ fn one_byte_too_many() {
     for (width, number) in [(Width::Bits32, 24), (Width::Bits64, 22)] {
         let regions =
             [Region::new("A.BIN", 7, 9000), Region::new("TOP.BIN", width.end_less(4097), 4098), Region::new("C.BIN", 5, 5)];
-        for (division, backend) in DIVISIONS.into_iter().flat_map(|d| [(d, Backend::Serial), (d, Backend::Usb)]) {
+        for (division, backend) in divisions() {
             let w = World::new(width, backend, &regions);
             let (mut wire, mut run) = (Wire::new(Device::dump(w.memory.clone()), division, 7), w.options().start().unwrap());
             let t = Temporary::new();
@@ -138,12 +142,12 @@ fn in_the_middle_of_a_memory_debug() {
             let mut run = options.start().unwrap();
             assert!(matches!(run.run(&mut wire, &mut sink, |_| ()), Err(Error::NoBytes)));
             let offered = came >= w.opening();
-            let known = if offered { w.entries() } else { worgesli::Width::Bits64 };
+            let known = if offered { host_width(w.width()) } else { worgesli::Width::Bits64 };
             assert_eq!((run.session().width(), run.session().reads()), (known, u64::from(offered)));
             let mut run = options.restore(&run.save()).unwrap();
             wire.faults = Faults::default();
             assert_eq!(run.run(&mut wire, &mut sink, |_| ()).unwrap(), Outcome::Dumped { reads: 4 });
-            assert!(sink.0 == w.kept() && run.session().width() == w.entries());
+            assert!(sink.0 == w.kept() && run.session().width() == host_width(w.width()));
         }
     }
 }

@@ -84,7 +84,15 @@ const STEMS: [&str; 6] = ["DDRCS0_0", "OCIMEM", "CODERAM", "load", "PMIC_PON", "
 
 /// The worlds of these seeds, with a board of each width.
 pub fn worlds(seeds: Range<u64>) -> impl Iterator<Item = (u64, World)> {
-    seeds.flat_map(|seed| Width::BOTH.map(|width| (seed, world(seed, width))))
+    Width::with_both(seeds).map(|(seed, width)| (seed, world(seed, width)))
+}
+
+/// A device's width as the host names it.
+pub fn host_width(width: Width) -> worgesli::Width {
+    match width {
+        Width::Bits32 => worgesli::Width::Bits32,
+        Width::Bits64 => worgesli::Width::Bits64,
+    }
 }
 
 /// Up to 6 regions, some of the same filename, some not preferred; lengths around chunks and blocks; with or without names.
@@ -135,14 +143,6 @@ impl World {
 
     pub fn width(&self) -> Width {
         self.memory.width()
-    }
-
-    /// The width as the host names it.
-    pub fn entries(&self) -> worgesli::Width {
-        match self.width() {
-            Width::Bits32 => worgesli::Width::Bits32,
-            Width::Bits64 => worgesli::Width::Bits64,
-        }
     }
 
     /// The bytes before the table: a hello and the memory debug.

@@ -62,7 +62,7 @@ fn each_system_call_fails() {
     let folder = Temporary::new();
     let Some(library) = shim(&folder.0) else { return };
     let faults = [(EIO, false), (ENOSPC, false), (EINTR, false), (EAGAIN, false), (EIO, true), (ENOSPC, true)];
-    for ((number, forever), width) in faults.into_iter().flat_map(|fault| Width::BOTH.map(|width| (fault, width))) {
+    for ((number, forever), width) in Width::with_both(faults) {
         let mut k = 0;
         while fails(&library, width, k, number, forever) {
             k += 1;
