@@ -91,6 +91,23 @@ extern "C" {
 #define WORGESLI_FINISHED_DUMPED 3u      /* the memory is dumped: every selected region was closed, in table order */
 #define WORGESLI_FINISHED_REPLY 4u       /* a reply is there: the first session.count bytes of reply */
 
+/* kind of a packet: worgesli_packet.command */
+#define WORGESLI_KIND_HELLO 0x01u
+#define WORGESLI_KIND_HELLO_RESP 0x02u
+#define WORGESLI_KIND_READ_DATA 0x03u
+#define WORGESLI_KIND_END_OF_IMAGE 0x04u
+#define WORGESLI_KIND_DONE 0x05u
+#define WORGESLI_KIND_DONE_RESP 0x06u
+#define WORGESLI_KIND_RESET_RESP 0x08u
+#define WORGESLI_KIND_MEM_DEBUG 0x09u
+#define WORGESLI_KIND_MEM_READ 0x0Au
+#define WORGESLI_KIND_COMMAND_READY 0x0Bu
+#define WORGESLI_KIND_EXECUTE_RESP 0x0Eu
+#define WORGESLI_KIND_EXECUTE_DATA 0x0Fu
+#define WORGESLI_KIND_MEM_DEBUG64 0x10u
+#define WORGESLI_KIND_MEM_READ64 0x11u
+#define WORGESLI_KIND_READ_DATA64 0x12u
+
 /* why a step is refused: number, name (WORGESLI_REFUSED_...) and words (worgesli_refusal_text), the first that applies in the order of the requirement.
  * 1, 2, 3, 4 and 18 are the caller's: session and buffers are as they were, nothing is taken, and once the bundle or buffer is right the step can be made.
  * Each other ends the session: what was handed out of the open region is as it came, and not all of it. */
@@ -176,7 +193,7 @@ typedef struct worgesli_range {
 /* A decoded packet; refused not 0: why it is none, and all else is 0. */
 typedef struct worgesli_packet {
     uint32_t refused;
-    uint32_t command; /* the kind's number */
+    uint32_t command; /* WORGESLI_KIND_... */
     uint32_t len;     /* the length field */
     uint32_t value;   /* a hello's mode, the command of an ExecuteResp or ExecuteData */
     uint64_t first;   /* the body's other numbers in order */

@@ -1,6 +1,6 @@
 /* Calls every function of libworgesli.a from C. Standard input has the bytes of a device (crates/desk/stdin); standard output is held to what
  * crates/desk writes for them. layout.inc is made by tools/test-c from the Rattle source: sizes, places and types of every field, each prototype, and the
- * numbers of modes, commands, backends, widths, phases and answers.
+ * numbers of modes, commands, backends, widths, phases, answers and kinds of packets.
  */
 #include <stdio.h>
 #include <string.h>
@@ -97,8 +97,9 @@ static worgesli_stepped closed(worgesli_session s)
 static const struct {
     uint64_t width;
     size_t number, entry, packet;
-    uint8_t debug, read; /* commands */
-} widths[] = {{WORGESLI_WIDTH_32, 4, 52, 16, 0x09, 0x0a}, {WORGESLI_WIDTH_64, 8, 64, 24, 0x10, 0x11}};
+    uint8_t debug, read; /* kinds */
+} widths[] = {{WORGESLI_WIDTH_32, 4, 52, 16, WORGESLI_KIND_MEM_DEBUG, WORGESLI_KIND_MEM_READ},
+              {WORGESLI_WIDTH_64, 8, 64, 24, WORGESLI_KIND_MEM_DEBUG64, WORGESLI_KIND_MEM_READ64}};
 
 static void put(uint8_t *to, size_t len, uint64_t number)
 {
@@ -107,9 +108,9 @@ static void put(uint8_t *to, size_t len, uint64_t number)
 }
 
 /* A memory debug or memory read of the w-th width; gives its length. */
-static size_t memory_packet(uint8_t to[24], size_t w, uint8_t command, uint64_t at, uint64_t len)
+static size_t memory_packet(uint8_t to[24], size_t w, uint8_t kind, uint64_t at, uint64_t len)
 {
-    put(to, 4, command), put(to + 4, 4, widths[w].packet);
+    put(to, 4, kind), put(to + 4, 4, widths[w].packet);
     put(to + 8, widths[w].number, at), put(to + 8 + widths[w].number, widths[w].number, len);
     return widths[w].packet;
 }

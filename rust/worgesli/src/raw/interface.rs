@@ -134,6 +134,9 @@ fn numbers_are_those_of_the_source() {
         let phases = [Phase::Packet, Phase::Response, Phase::Switched, Phase::Table, Phase::Between, Phase::Region, Phase::Ended];
         assert_eq!(phases.iter().find(|p| case(p) == name).map(|p| *p as u32), Some(n));
     }
+    // of 48 bytes that are 0 but for the command, just the kinds are packets
+    let is_kind = |n: &u32| crate::parse_packet(&[&n.to_le_bytes()[..], &[0; 44]].concat()).is_ok();
+    assert_eq!(numbers("kind").into_iter().map(|k| k.1).collect::<Vec<_>>(), (0..100).filter(is_kind).collect::<Vec<_>>());
     let answers = numbers("answer");
     assert_eq!(answers, (0..answers.len() as u32).map(|n| (case(answer(n, 0, 0)), n)).collect::<Vec<_>>());
 }
