@@ -2,11 +2,12 @@
  *
  *     fetch [-u] [-t MS] PORT FOLDER [NAME...]
  *
- * PORT is a path, or the number of a descriptor that was inherited. A terminal is made raw; its speed stays as it is. Each selected region goes to a file of
- * its own in FOLDER, which is made if need be: to FILE.part while its bytes come, and under its final name only when it is whole and on the disk. A NAME is
- * a filename up to its first '.', in any case ("ocimem"); with none, the device's preference decides. -u: the device follows the rules of USB. -t: how long
- * a silent device is waited for at a time, 5 times in a row. The exit status is 0 when every selected region is whole and there was one, 2 for a wrong
- * call, else 1; then what came of a region that is not whole is still there, as FILE.part. The device is not reset.
+ * The device may be one of 64 bits or an older one of 32. PORT is a path, or the number of a descriptor that was inherited. A terminal is made raw; its
+ * speed stays as it is. Each selected region goes to a file of its own in FOLDER, which is made if need be: to FILE.part while its bytes come, and under
+ * its final name only when it is whole and on the disk. A NAME is a filename up to its first '.', in any case ("ocimem"); with none, the device's
+ * preference decides. -u: the device follows the rules of USB. -t: how long a silent device is waited for at a time, 5 times in a row. The exit status is
+ * 0 when every selected region is whole and there was one, 2 for a wrong call, else 1; then what came of a region that is not whole is still there, as
+ * FILE.part. The device is not reset.
  */
 #define _POSIX_C_SOURCE 200809L
 #include <errno.h>
@@ -230,7 +231,7 @@ static void fetch(uint32_t backend, const uint8_t *names, size_t names_len)
             send_all(lent.set + r.first, r.second);
             break;
         case WORGESLI_ANSWER_OPEN:
-            begin_region(worgesli_entry_at(table, session.count, r.first));
+            begin_region(worgesli_entry_at(table, session.count, session.width, r.first));
             break;
         case WORGESLI_ANSWER_BYTES:
             keep(in + from, r.first);

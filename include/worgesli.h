@@ -11,7 +11,9 @@
  * What is lent to each step of a session (worgesli_lent):
  *   set, names  an image set and a name list, each a bundle; empty ones are 8 zero bytes. Not well formed: refused 1, 2
  *   table       where the device's memory table goes: the same bytes in each step. It may have up to WORGESLI_TABLE_LEN, and one that is announced
- *               longer than what is lent, or than that, is refused 17. NULL where no memory is dumped
+ *               longer than what is lent, or than that, is refused 17. NULL where no memory is dumped. A device offers its memory with addresses and
+ *               lengths of 64 bits (MemDebug64) or, as older boards do, of 32 (MemDebug); the fetch is the same, and session.width says how wide the
+ *               numbers in the table are (worgesli_entry_at)
  *   reply       where the response to a command goes: the same bytes in each step, as many as the caller likes; a longer response is refused 16
  *   out         where packets are built that are to be sent: at least WORGESLI_OUT_LEN bytes, or refused 3
  * A table or reply that is shorter in a later step than what it is to hold: refused 18.
@@ -36,7 +38,7 @@ extern "C" {
 
 /* The number of this interface: another where a struct or a function is another. A file that includes this header links only with an archive of the same
  * number. Who finds the functions at run time (dlopen) defines WORGESLI_AT_RUN_TIME before, and compares worgesli_abi() with it. */
-#define WORGESLI_ABI 1
+#define WORGESLI_ABI 2
 
 #define WORGESLI_OUT_LEN 48
 #define WORGESLI_TABLE_LEN 65536
@@ -58,6 +60,10 @@ extern "C" {
 /* backend: with USB there are empty reads */
 #define WORGESLI_BACKEND_SERIAL 0u
 #define WORGESLI_BACKEND_USB 1u
+
+/* width of a device's addresses and lengths in bits, in its memory debug and in its table */
+#define WORGESLI_WIDTH_32 32u /* MemDebug; a table's entry has 52 bytes */
+#define WORGESLI_WIDTH_64 64u /* MemDebug64, and a session before either came; 64 bytes */
 
 /* phase of a session */
 #define WORGESLI_PHASE_PACKET 0u   /* count: packet bytes held */
@@ -85,6 +91,23 @@ extern "C" {
 #define WORGESLI_FINISHED_DUMPED 3u      /* the memory is dumped: every selected region was closed, in table order */
 #define WORGESLI_FINISHED_REPLY 4u       /* a reply is there: the first session.count bytes of reply */
 
+/* kind of a packet: worgesli_packet.command */
+#define WORGESLI_KIND_HELLO 0x01u
+#define WORGESLI_KIND_HELLO_RESP 0x02u
+#define WORGESLI_KIND_READ_DATA 0x03u
+#define WORGESLI_KIND_END_OF_IMAGE 0x04u
+#define WORGESLI_KIND_DONE 0x05u
+#define WORGESLI_KIND_DONE_RESP 0x06u
+#define WORGESLI_KIND_RESET_RESP 0x08u
+#define WORGESLI_KIND_MEM_DEBUG 0x09u
+#define WORGESLI_KIND_MEM_READ 0x0Au
+#define WORGESLI_KIND_COMMAND_READY 0x0Bu
+#define WORGESLI_KIND_EXECUTE_RESP 0x0Eu
+#define WORGESLI_KIND_EXECUTE_DATA 0x0Fu
+#define WORGESLI_KIND_MEM_DEBUG64 0x10u
+#define WORGESLI_KIND_MEM_READ64 0x11u
+#define WORGESLI_KIND_READ_DATA64 0x12u
+
 /* why a step is refused: number, name (WORGESLI_REFUSED_...) and words (worgesli_refusal_text), the first that applies in the order of the requirement.
  * 1, 2, 3, 4 and 18 are the caller's: session and buffers are as they were, nothing is taken, and once the bundle or buffer is right the step can be made.
  * Each other ends the session: what was handed out of the open region is as it came, and not all of it. */
@@ -111,7 +134,8 @@ extern "C" {
     X(20, FILENAME, "a region's filename is not UTF-8 before its first zero byte")                                           \
     X(21, FILENAME_BYTES, "the 20 bytes of a region's filename are not UTF-8")                                               \
     X(22, REGION_END, "a region ends above 2^64")                                                                            \
-    X(23, CLOSED, "the channel was closed before the end")
+    X(23, CLOSED, "the channel was closed before the end")                                                                   \
+    X(24, REGION_END_32, "a region of a 32-bit device ends above 2^32")
 
 /* A session. Numbers that its phase does not use are 0. Keep it as it is: other bits are refused. A copy is a session of its own. */
 typedef struct worgesli_session {
@@ -126,7 +150,8 @@ typedef struct worgesli_session {
     uint64_t len;
     uint64_t done;
     uint64_t outstanding;
-    uint64_t due; /* 1: an empty read is due */
+    uint64_t due;   /* 1: an empty read is due */
+    uint64_t width; /* of the memory debug that came: WORGESLI_WIDTH_..., in every phase */
     uint8_t window[48];
 } worgesli_session;
 
@@ -148,7 +173,7 @@ typedef struct worgesli_placed {
     uint64_t waits; /* of a session in a region what worgesli_wanted would say now, of any other session 0; of other bits it says nothing */
 } worgesli_placed;
 
-/* An entry of the memory table; there 0: the table has no such entry, and all is 0. */
+/* An entry of the memory table, of either width; there 0: the table has no such entry, and all is 0. */
 typedef struct worgesli_entry {
     uint64_t save_pref;
     uint64_t base;
@@ -168,7 +193,7 @@ typedef struct worgesli_range {
 /* A decoded packet; refused not 0: why it is none, and all else is 0. */
 typedef struct worgesli_packet {
     uint32_t refused;
-    uint32_t command; /* the kind's number */
+    uint32_t command; /* WORGESLI_KIND_... */
     uint32_t len;     /* the length field */
     uint32_t value;   /* a hello's mode, the command of an ExecuteResp or ExecuteData */
     uint64_t first;   /* the body's other numbers in order */
@@ -201,8 +226,8 @@ worgesli_stepped worgesli_step(worgesli_session session,
                                uint8_t *reply, size_t reply_len,
                                uint8_t *out, size_t out_len);
 
-/* The same step of a session where it stands, and cheaper: its numbers from mode to phase, those from reads to due, and its window (worgesli_step_at). */
-worgesli_placed worgesli_step_in_place(uint32_t head[4], uint64_t numbers[8], uint8_t window[48],
+/* The same step of a session where it stands, and cheaper: its numbers from mode to phase, those from reads to width, and its window (worgesli_step_at). */
+worgesli_placed worgesli_step_in_place(uint32_t head[4], uint64_t numbers[9], uint8_t window[48],
                                        const uint8_t *delivery, size_t delivery_len,
                                        const uint8_t *set, size_t set_len,
                                        const uint8_t *names, size_t names_len,
@@ -220,7 +245,7 @@ bool worgesli_is_session(worgesli_session session);
 size_t worgesli_wanted(worgesli_session session);
 
 /* The same of a session where it stands, and cheaper (worgesli_wanted_at). */
-size_t worgesli_wanted_in_place(const uint32_t head[4], const uint64_t numbers[8], const uint8_t window[48]);
+size_t worgesli_wanted_in_place(const uint32_t head[4], const uint64_t numbers[9], const uint8_t window[48]);
 
 /* 0: well formed; 1: an image set that is not; 2: a name list that is not. */
 uint32_t worgesli_check_images(const uint8_t *set, size_t set_len);
@@ -229,12 +254,12 @@ uint32_t worgesli_check_names(const uint8_t *names, size_t names_len);
 /* Where the bytes that a device's read asks for stand in an image set. */
 worgesli_range worgesli_image_range(const uint8_t *set, size_t set_len, uint64_t id, uint64_t offset, uint64_t len);
 
-/* Entry i of a table. */
-worgesli_entry worgesli_entry_at(const uint8_t *table, size_t table_len, size_t i);
+/* Entry i of a table of this width. A table of a number that is no width has no entry. */
+worgesli_entry worgesli_entry_at(const uint8_t *table, size_t table_len, uint64_t width, size_t i);
 
 /* The first selected entry from `from` on and before `entries`; where there is none, `entries` (`from` if that is not below it). No entry behind the
  * table's end is selected or looked at: `entries` may be SIZE_MAX. */
-size_t worgesli_next_selected(const uint8_t *table, size_t table_len, size_t entries, const uint8_t *names, size_t names_len, size_t from);
+size_t worgesli_next_selected(const uint8_t *table, size_t table_len, uint64_t width, size_t entries, const uint8_t *names, size_t names_len, size_t from);
 
 /* Whether the bytes are UTF-8. */
 bool worgesli_utf8(const uint8_t *bytes, size_t bytes_len);
@@ -357,10 +382,10 @@ static inline size_t worgesli_bundle(const worgesli_slot *slots, size_t n, uint8
 #define WORGESLI_ASSERT(test, text) _Static_assert(test, text)
 #endif
 WORGESLI_ASSERT(sizeof(size_t) == 8, "size_t");
-WORGESLI_ASSERT(sizeof(worgesli_session) == 128, "worgesli_session");
+WORGESLI_ASSERT(sizeof(worgesli_session) == 136, "worgesli_session");
 WORGESLI_ASSERT(offsetof(worgesli_session, reads) == 16, "worgesli_session.reads");
-WORGESLI_ASSERT(offsetof(worgesli_session, window) == 80, "worgesli_session.window");
-WORGESLI_ASSERT(sizeof(worgesli_stepped) == 160, "worgesli_stepped");
+WORGESLI_ASSERT(offsetof(worgesli_session, window) == 88, "worgesli_session.window");
+WORGESLI_ASSERT(sizeof(worgesli_stepped) == 168, "worgesli_stepped");
 WORGESLI_ASSERT(sizeof(worgesli_placed) == 40, "worgesli_placed");
 WORGESLI_ASSERT(sizeof(worgesli_entry) == 72, "worgesli_entry");
 WORGESLI_ASSERT(sizeof(worgesli_range) == 24, "worgesli_range");

@@ -1,6 +1,6 @@
 /* Calls every function of libworgesli.a from C. Standard input has the bytes of a device (crates/desk/stdin); standard output is held to what
  * crates/desk writes for them. layout.inc is made by tools/test-c from the Rattle source: sizes, places and types of every field, each prototype, and the
- * numbers of modes, commands, backends, phases and answers.
+ * numbers of modes, commands, backends, widths, phases, answers and kinds of packets.
  */
 #include <stdio.h>
 #include <string.h>
@@ -91,6 +91,36 @@ static worgesli_stepped closed(worgesli_session s)
     worgesli_stepped r = worgesli_closed(s);
     EXPECT(worgesli_closed_at(&s) == r.first && same(s, r.session));
     return r;
+}
+
+/* Both widths, and the bytes of a number, of an entry and of a memory debug or memory read in each. */
+static const struct {
+    uint64_t width;
+    size_t number, entry, packet;
+    uint8_t debug, read; /* kinds */
+} widths[] = {{WORGESLI_WIDTH_32, 4, 52, 16, WORGESLI_KIND_MEM_DEBUG, WORGESLI_KIND_MEM_READ},
+              {WORGESLI_WIDTH_64, 8, 64, 24, WORGESLI_KIND_MEM_DEBUG64, WORGESLI_KIND_MEM_READ64}};
+
+static void put(uint8_t *to, size_t len, uint64_t number)
+{
+    for (size_t i = 0; i < len; i++)
+        to[i] = (uint8_t)(number >> (8 * i));
+}
+
+/* A memory debug or memory read of the w-th width; gives its length. */
+static size_t memory_packet(uint8_t to[24], size_t w, uint8_t kind, uint64_t at, uint64_t len)
+{
+    put(to, 4, kind), put(to + 4, 4, widths[w].packet);
+    put(to + 8, widths[w].number, at), put(to + 8 + widths[w].number, widths[w].number, len);
+    return widths[w].packet;
+}
+
+static void entry(uint8_t *to, size_t w, uint64_t preference, uint64_t base, uint64_t len, const char *filename)
+{
+    const size_t n = widths[w].number;
+    memset(to, 0, widths[w].entry);
+    put(to, n, preference), put(to + n, n, base), put(to + 2 * n, n, len);
+    memcpy(to + 3 * n + 20, filename, strlen(filename));
 }
 
 static bool refused(worgesli_stepped r, uint64_t why)
@@ -186,6 +216,133 @@ static void every_mode(void)
     }
 }
 
+/* ---- a fetch from a board of each width, by value and in place, in deliveries of any length */
+
+/* The board's bytes: of a region's address its lowest byte, turned. */
+static uint8_t memory_at(uint64_t at)
+{
+    return (uint8_t)~at;
+}
+
+/* One region that is not preferred, one that ends with the last address. The w-th width, deliveries of at most so many bytes. */
+static void fetch(size_t w, size_t most)
+{
+    const uint64_t len = 4096 + 512, base = (widths[w].width == 32 ? 0xFFFFFFFFu : UINT64_MAX) - len + 1;
+    const struct {
+        uint64_t at, len;
+    } reads[] = {{0xFFFFFFF0u, 2 * widths[w].entry}, {base, 4096}, {base + 4096, 512}};
+    static uint8_t said[8192];
+    uint8_t packet[24];
+    size_t from = 0, to = memory_packet(said, w, widths[w].debug, reads[0].at, reads[0].len), sent = 0, came = 0, turns = 0;
+    worgesli_session s = worgesli_open(WORGESLI_MODE_MEMORY_DEBUG, WORGESLI_COMMAND_NONE, WORGESLI_BACKEND_USB);
+    worgesli_stepped r;
+    EXPECT(s.width == WORGESLI_WIDTH_64);
+    fill();
+    do {
+        const size_t n = to - from < most ? to - from : most;
+        r = step(s, said + from, n);
+        EXPECT(worgesli_is_session(r.session) && r.session.width == (sent > 0 || r.answer == WORGESLI_ANSWER_SEND ? widths[w].width : 64));
+        switch (r.answer) {
+        case WORGESLI_ANSWER_GO:
+            break;
+        case WORGESLI_ANSWER_SEND:
+            EXPECT(sent < 3 && from + r.taken == to);
+            if (failed)
+                return;
+            EXPECT(r.first == memory_packet(packet, w, widths[w].read, reads[sent].at, reads[sent].len) && memcmp(out, packet, r.first) == 0);
+            from = 0, to = reads[sent].len, r.taken = 0;
+            for (size_t i = 0; i < to; i++)
+                said[i] = memory_at(reads[sent].at + i);
+            if (sent == 0) /* the table */
+                entry(said, w, 0, base + 1, len, "OTHER.BIN"), entry(said + widths[w].entry, w, 1, base, len, "TOP.BIN");
+            sent++;
+            EXPECT(r.session.reads == sent);
+            break;
+        case WORGESLI_ANSWER_OPEN:
+            EXPECT(r.first == 1 && memcmp(worgesli_entry_at(table, r.session.count, r.session.width, 1).filename, "TOP.BIN", 8) == 0);
+            EXPECT(r.session.base == base && r.session.len == len && r.session.count == 2 * widths[w].entry);
+            break;
+        case WORGESLI_ANSWER_BYTES:
+            for (size_t i = 0; i < r.first; i++)
+                EXPECT(said[from + i] == memory_at(base + came + i));
+            came += r.first;
+            break;
+        case WORGESLI_ANSWER_EMPTY_READ:
+            EXPECT(came == 4096 || came == len);
+            break;
+        case WORGESLI_ANSWER_CLOSE:
+            EXPECT(r.first == 1 && came == len);
+            break;
+        case WORGESLI_ANSWER_FINISHED:
+            EXPECT(r.first == WORGESLI_FINISHED_DUMPED && r.second == 3 && sent == 3 && came == len && from == to);
+            break;
+        default:
+            EXPECT(!"another answer");
+        }
+        s = r.session, from += r.taken;
+        EXPECT(++turns < 20000);
+    } while (!failed && r.answer != WORGESLI_ANSWER_FINISHED);
+    EXPECT(s.phase == WORGESLI_PHASE_ENDED && s.width == widths[w].width);
+}
+
+static void fetches(void)
+{
+    static const size_t mosts[] = {1, 7, 51, 52, 53, 511, 512, 4095, 4096, SIZE_MAX};
+    for (size_t w = 0; w < 2; w++)
+        for (size_t i = 0; i < sizeof mosts / sizeof mosts[0]; i++)
+            fetch(w, mosts[i]);
+}
+
+/* ---- what a board of either width is refused for */
+
+/* A packet of so many bytes, all but command and length 0: what becomes of it, and all of it is taken. */
+static uint64_t judged(uint8_t command, uint8_t len)
+{
+    uint8_t packet[48] = {command, 0, 0, 0, len};
+    worgesli_session s = worgesli_open(WORGESLI_MODE_MEMORY_DEBUG, WORGESLI_COMMAND_NONE, WORGESLI_BACKEND_SERIAL);
+    fill();
+    worgesli_stepped r = step(s, packet, len);
+    EXPECT(r.taken == len && (r.answer == WORGESLI_ANSWER_SEND || (r.answer == WORGESLI_ANSWER_REFUSED && filled() && r.session.width == 64)));
+    return r.answer == WORGESLI_ANSWER_SEND ? 0 : r.first;
+}
+
+/* A session in the w-th width's region of this base and length, nothing of it done. */
+static worgesli_session in_region(size_t w, uint64_t base, uint64_t len)
+{
+    worgesli_session s = worgesli_open(WORGESLI_MODE_MEMORY_DEBUG, WORGESLI_COMMAND_NONE, WORGESLI_BACKEND_SERIAL);
+    s.phase = WORGESLI_PHASE_REGION, s.width = widths[w].width, s.count = 128, s.base = base, s.len = len;
+    return s;
+}
+
+static void refusals_of_boards(void)
+{
+    for (uint8_t len = 8; len <= 48; len++) {
+        EXPECT(judged(0x09, len) == (len < 16 ? 9u : len == 16 ? 0 : 11));
+        EXPECT(judged(0x0a, len) == (len < 16 ? 9u : 10));
+        EXPECT(judged(0x10, len) == (len < 24 ? 9u : len == 24 ? 0 : 11));
+        EXPECT(judged(0x11, len) == (len < 24 ? 9u : 10));
+    }
+    const uint64_t last[] = {0xFFFFFFFFu, UINT64_MAX}, why[] = {WORGESLI_REFUSED_REGION_END_32, WORGESLI_REFUSED_REGION_END};
+    for (size_t w = 0; w < 2; w++) {
+        fill(), memset(table, 0, sizeof table);
+        worgesli_stepped r = step(in_region(w, last[w], 1), NULL, 0);
+        EXPECT(r.answer == WORGESLI_ANSWER_SEND && r.first == widths[w].packet && r.session.outstanding == 1);
+        r = step(in_region(w, last[w], 2), NULL, 0);
+        EXPECT(refused(r, why[w]) && r.session.phase == WORGESLI_PHASE_ENDED && r.session.width == widths[w].width);
+        EXPECT(refused(step(in_region(w, 2, last[w]), NULL, 0), why[w]));
+        r = step(in_region(w, last[w], 0), NULL, 0);
+        EXPECT(r.answer == WORGESLI_ANSWER_CLOSE && r.first == 0);
+        /* once a byte is done it is no region's end any more, but a number above its limit: nothing changes */
+        worgesli_session s = in_region(w, last[w], 2);
+        s.done = 1;
+        r = step(s, NULL, 0);
+        EXPECT(refused(r, WORGESLI_REFUSED_LIMIT) && same(r.session, s));
+    }
+    /* what is too much for 32 bits is not for 64 */
+    worgesli_stepped r = step(in_region(1, last[0], 2), NULL, 0);
+    EXPECT(r.answer == WORGESLI_ANSWER_SEND && r.first == 24);
+}
+
 /* ---- bits that are no session */
 
 /* A step of s, by value and in place, with this image set and names and so many bytes of out. */
@@ -227,6 +384,13 @@ static void no_sessions(void)
     no_session(worgesli_open(0, 4, 0));
     no_session(worgesli_open(0, 0, 2));
     s = good, s.phase = 7, no_session(s);
+    EXPECT(good.width == WORGESLI_WIDTH_64);
+    static const uint64_t no_widths[] = {0, 16, 31, 33, 63, 65, 128, UINT64_C(1) << 32 | 32, UINT64_MAX};
+    for (uint32_t phase = 0; phase < 7; phase++) {
+        s = good, s.phase = phase, s.width = WORGESLI_WIDTH_32, EXPECT(worgesli_is_session(s));
+        for (size_t i = 0; i < sizeof no_widths / sizeof no_widths[0]; i++)
+            s.width = no_widths[i], no_session(s);
+    }
     /* numbers that the phase does not use */
     static const uint32_t one_count[] = {WORGESLI_PHASE_PACKET, WORGESLI_PHASE_SWITCHED, WORGESLI_PHASE_ENDED};
     static const uint32_t two_counts[] = {WORGESLI_PHASE_RESPONSE, WORGESLI_PHASE_TABLE, WORGESLI_PHASE_BETWEEN};
@@ -311,23 +475,25 @@ static void lends(void)
     EXPECT(r.answer == WORGESLI_ANSWER_FINISHED && r.first == WORGESLI_FINISHED_DUMPED);
 }
 
-/* MemDebug64 of so long a table, and a table buffer of so many bytes. */
-static uint64_t announced(uint64_t len, size_t room)
+/* The memory debug of the w-th width, of so long a table beyond the last address of 32 bits, and a table buffer of so many bytes. */
+static uint64_t announced(size_t w, uint64_t len, size_t room)
 {
     static uint8_t large[WORGESLI_TABLE_LEN + 1];
-    uint8_t debug[24] = {0x10, 0, 0, 0, 24};
-    memcpy(debug + 16, &len, 8);
+    uint8_t debug[24];
+    const size_t n = memory_packet(debug, w, widths[w].debug, 0xFFFFFFFFu, len);
     EXPECT(room <= sizeof large);
-    worgesli_stepped r = worgesli_step(in_phase(WORGESLI_PHASE_PACKET), debug, sizeof debug, none, 8, none, 8, large, room, NULL, 0, out, WORGESLI_OUT_LEN);
+    worgesli_stepped r = worgesli_step(in_phase(WORGESLI_PHASE_PACKET), debug, n, none, 8, none, 8, large, room, NULL, 0, out, WORGESLI_OUT_LEN);
     EXPECT(r.answer == WORGESLI_ANSWER_SEND || r.answer == WORGESLI_ANSWER_REFUSED);
     return r.answer == WORGESLI_ANSWER_SEND ? 0 : r.first;
 }
 
 static void limits(void)
 {
-    EXPECT(announced(WORGESLI_TABLE_LEN, WORGESLI_TABLE_LEN) == 0 && announced(0, 0) == 0);
-    EXPECT(announced(WORGESLI_TABLE_LEN + 1, WORGESLI_TABLE_LEN + 1) == WORGESLI_REFUSED_TABLE_LENGTH);
-    EXPECT(announced(65, 64) == WORGESLI_REFUSED_TABLE_LENGTH);
+    for (size_t w = 0; w < 2; w++) {
+        EXPECT(announced(w, WORGESLI_TABLE_LEN, WORGESLI_TABLE_LEN) == 0 && announced(w, 0, 0) == 0);
+        EXPECT(announced(w, WORGESLI_TABLE_LEN + 1, WORGESLI_TABLE_LEN + 1) == WORGESLI_REFUSED_TABLE_LENGTH);
+        EXPECT(announced(w, 65, 64) == WORGESLI_REFUSED_TABLE_LENGTH && announced(w, 0xFFFFFFFFu, 64) == WORGESLI_REFUSED_TABLE_LENGTH);
+    }
     EXPECT(worgesli_reset(out, WORGESLI_OUT_LEN) == 0 && worgesli_reset(out, WORGESLI_OUT_LEN - 1) == WORGESLI_REFUSED_OUT_BUFFER);
     static uint8_t slots[8 + 8 * (WORGESLI_SLOTS + 1)];
     slots[0] = WORGESLI_SLOTS;
@@ -360,14 +526,25 @@ static void nulls(void)
     EXPECT(a.answer == WORGESLI_ANSWER_GO && a.first == 0 && a.second == 0 && a.taken == 0 && same(p, s));
     EXPECT(worgesli_check_images(NULL, 0) == 1 && worgesli_check_names(NULL, 0) == 2);
     EXPECT(worgesli_image_range(NULL, 0, 0, 0, 0).refused == 1);
-    EXPECT(worgesli_entry_at(NULL, 0, 0).there == 0);
-    EXPECT(worgesli_next_selected(NULL, 0, 0, NULL, 0, 0) == 0);
+    for (uint64_t width = 0; width < 70; width++) {
+        EXPECT(worgesli_entry_at(NULL, 0, width, 0).there == 0);
+        EXPECT(worgesli_next_selected(NULL, 0, width, 0, NULL, 0, 0) == 0);
+    }
     EXPECT(worgesli_utf8(NULL, 0));
     EXPECT(worgesli_parse_packet(NULL, 0).refused == 9);
     EXPECT(worgesli_reset(NULL, 0) == 3);
 }
 
 /* ---- the leaves: each field of each struct comes from its own bytes */
+
+/* Of the table's first n bytes there is no such entry. */
+static void no_entry(size_t n, uint64_t width, size_t i)
+{
+    static const uint8_t zeros[20];
+    const worgesli_entry e = worgesli_entry_at(table, n, width, i);
+    EXPECT(e.there == 0 && e.save_pref == 0 && e.base == 0 && e.len == 0);
+    EXPECT(memcmp(e.description, zeros, 20) == 0 && memcmp(e.filename, zeros, 20) == 0);
+}
 
 static void leaves(const uint8_t *hello)
 {
@@ -383,18 +560,32 @@ static void leaves(const uint8_t *hello)
 
     for (size_t i = 0; i < sizeof table; i++)
         table[i] = (uint8_t)i;
-    worgesli_entry e = worgesli_entry_at(table, 192, 1);
+    worgesli_entry e = worgesli_entry_at(table, 192, WORGESLI_WIDTH_64, 1);
     EXPECT(e.there == 1 && e.save_pref == 0x4746454443424140 && e.base == 0x4f4e4d4c4b4a4948 && e.len == 0x5756555453525150);
     EXPECT(memcmp(e.description, table + 88, 20) == 0 && memcmp(e.filename, table + 108, 20) == 0);
-    worgesli_entry nothing;
-    memset(&nothing, 0, sizeof nothing);
-    e = worgesli_entry_at(table, 191, 2);
-    EXPECT(e.there == 0 && e.save_pref == 0 && e.base == 0 && e.len == 0);
-    EXPECT(memcmp(e.description, nothing.description, 20) == 0 && memcmp(e.filename, nothing.filename, 20) == 0);
+    no_entry(192, WORGESLI_WIDTH_64, 3), no_entry(191, WORGESLI_WIDTH_64, 2), no_entry(63, WORGESLI_WIDTH_64, 0);
+    e = worgesli_entry_at(table, 156, WORGESLI_WIDTH_32, 1);
+    EXPECT(e.there == 1 && e.save_pref == 0x37363534 && e.base == 0x3b3a3938 && e.len == 0x3f3e3d3c);
+    EXPECT(memcmp(e.description, table + 64, 20) == 0 && memcmp(e.filename, table + 84, 20) == 0);
+    EXPECT(worgesli_entry_at(table, 52, WORGESLI_WIDTH_32, 0).there == 1 && worgesli_entry_at(table, 63, WORGESLI_WIDTH_32, 0).len == 0x0b0a0908);
+    no_entry(156, WORGESLI_WIDTH_32, 3), no_entry(155, WORGESLI_WIDTH_32, 2), no_entry(51, WORGESLI_WIDTH_32, 0);
+    no_entry(192, 33, 0), no_entry(192, 0, 0), no_entry(192, UINT64_C(1) << 32 | 32, 0), no_entry(192, UINT64_MAX, 0);
 
-    memset(table, 0, sizeof table);
-    table[64] = 1;
-    EXPECT(worgesli_next_selected(table, 192, 3, none, 8, 0) == 1 && worgesli_next_selected(table, 192, 3, none, 8, 2) == 3);
+    for (size_t w = 0; w < 2; w++) {
+        const uint64_t width = widths[w].width;
+        const size_t len = 3 * widths[w].entry;
+        memset(table, 0, sizeof table);
+        table[widths[w].entry] = 1;
+        EXPECT(worgesli_next_selected(table, len, width, 3, none, 8, 0) == 1 && worgesli_next_selected(table, len, width, 3, none, 8, 2) == 3);
+        EXPECT(worgesli_next_selected(table, len, width, SIZE_MAX, none, 8, 2) == SIZE_MAX && worgesli_next_selected(table, len, width, 3, none, 8, 9) == 9);
+        EXPECT(worgesli_next_selected(table, 2 * widths[w].entry - 1, width, 3, none, 8, 0) == 3);
+        EXPECT(worgesli_next_selected(table, len, 33, 3, none, 8, 0) == 3 && worgesli_next_selected(table, len, 0, 3, none, 8, 9) == 9);
+        entry(table + widths[w].entry, w, 0, 0, 0, "N.BIN");
+        static const uint8_t names[] = {1, 0, 0, 0, 1, 0, 0, 0, 0, 0, 0, 0, 1, 0, 0, 0, 'n'};
+        EXPECT(worgesli_next_selected(table, len, width, 3, names, sizeof names, 0) == 1);
+        EXPECT(worgesli_next_selected(table, len, width, 3, names, sizeof names, 2) == 3);
+        EXPECT(worgesli_next_selected(table, len, 33, 3, names, sizeof names, 0) == 3);
+    }
 
     EXPECT(worgesli_utf8((const uint8_t *)"\xc3\xa4", 2) && !worgesli_utf8((const uint8_t *)"\xc3\xa4", 1) && !worgesli_utf8((const uint8_t *)"\xc0\x80", 2));
 
@@ -411,6 +602,11 @@ static void leaves(const uint8_t *hello)
     q[0] = 0x12;
     p = worgesli_parse_packet(q, sizeof q);
     EXPECT(p.refused == 0 && p.command == 0x12 && p.value == 0 && p.first == 0x100f0e0d0c0b0a09 && p.second == 0x0000000314131211 && p.third == 0x201f1e1d1c1b1a19);
+    for (q[0] = 9; q[0] < 11; q[0]++) {
+        p = worgesli_parse_packet(q, 16);
+        EXPECT(p.refused == 0 && p.command == q[0] && p.len == 0x08070605 && p.value == 0 && p.first == 0x0c0b0a09 && p.second == 0x100f0e0d && p.third == 0);
+        EXPECT(worgesli_parse_packet(q, 15).refused == 9 && worgesli_parse_packet(q, sizeof q).refused == 0);
+    }
     q[0] = 0x15;
     p = worgesli_parse_packet(q, sizeof q);
     EXPECT(p.refused == 6 && p.command == 0 && p.len == 0 && p.value == 0 && p.first == 0 && p.second == 0 && p.third == 0 && p.unk0 == 0 && p.unk5 == 0);
@@ -432,6 +628,8 @@ int main(void)
     if (!failed)
         leaves(bytes);
     every_mode();
+    fetches();
+    refusals_of_boards();
     no_sessions();
     ends();
     lends();

@@ -30,15 +30,16 @@ static void words(void)
 {
     const char *none = worgesli_refusal_text(0);
     EXPECT(strcmp(none, "no such refusal") == 0);
-    for (uint64_t n = 1; n <= 23; n++) {
+    for (uint64_t n = 1; n <= 24; n++) {
         EXPECT(strcmp(worgesli_refusal_text(n), none) != 0);
         for (uint64_t m = 1; m < n; m++)
             EXPECT(strcmp(worgesli_refusal_text(n), worgesli_refusal_text(m)) != 0);
     }
-    EXPECT(strcmp(worgesli_refusal_text(24), none) == 0 && strcmp(worgesli_refusal_text(UINT64_MAX), none) == 0);
+    EXPECT(strcmp(worgesli_refusal_text(25), none) == 0 && strcmp(worgesli_refusal_text(UINT64_MAX), none) == 0);
     EXPECT(strcmp(worgesli_refusal_text((UINT64_C(1) << 32) + 1), none) == 0);
     EXPECT(strcmp(worgesli_refusal_text(WORGESLI_REFUSED_CLOSED), "the channel was closed before the end") == 0);
     EXPECT(WORGESLI_REFUSED_IMAGE_SET == 1 && WORGESLI_REFUSED_LIMIT == 18 && WORGESLI_REFUSED_CLOSED == 23);
+    EXPECT(WORGESLI_REFUSED_REGION_END == 22 && WORGESLI_REFUSED_REGION_END_32 == 24);
 }
 
 /* ---- bundles */

@@ -2,7 +2,7 @@
 //!
 //! A host is anything that fetches from a [`Wire`]. [`Bare`] makes the same reads and writes and thinks nothing: its time is that of
 //! the device and the sink, and is taken off. Hosts take turns in one run, so that what else the machine does falls on all of them.
-use device::{Device, Division, Memory, Region, Wire};
+use device::{Device, Division, Memory, Region, Width, Wire};
 use std::fs::{File, OpenOptions};
 use std::hint::black_box;
 use std::io::{self, Read, Write};
@@ -13,6 +13,7 @@ use worgesli::{sahara_run, Backend, Entry, Folder, Mode, Options, Outcome, Sink,
 /// What is fetched.
 #[derive(Clone, Debug)]
 pub struct Setting {
+    pub width: Width,
     pub backend: Backend,
     /// the lengths of the preferred regions, one behind the other from address 0
     pub regions: Vec<u64>,
@@ -26,8 +27,9 @@ pub struct Setting {
 }
 
 impl Setting {
+    /// One region of a device of 64 bits.
     pub fn new(backend: Backend, len: u64) -> Setting {
-        Setting { backend, regions: vec![len], others: 0, names: 0, slots: 0, division: Division::Whole }
+        Setting { width: Width::Bits64, backend, regions: vec![len], others: 0, names: 0, slots: 0, division: Division::Whole }
     }
 
     pub fn chunks(&self) -> u64 {
@@ -50,7 +52,7 @@ impl Setting {
             table.push(Region::new("DDR.BIN", base, *len));
             base += len;
         }
-        Wire::new(Device::dump(Memory::new(1, 1 << 60, &table)), self.division, 1)
+        Wire::new(Device::dump(Memory::of(self.width, 1, self.width.half(), &table)), self.division, 1)
     }
 }
 
@@ -133,13 +135,13 @@ impl Host for Files {
 /// The reads and writes alone.
 pub struct Bare(pub Keep);
 
-fn ask(channel: &mut Wire, at: u64, len: u64) {
+fn ask(width: Width, channel: &mut Wire, at: u64, len: u64) {
     let mut request = [0; 24];
-    request[0] = 0x11;
-    request[4] = 24;
-    request[8..16].copy_from_slice(&at.to_le_bytes());
-    request[16..].copy_from_slice(&len.to_le_bytes());
-    channel.write_all(&request).unwrap();
+    let (middle, end) = (8 + width.number_len(), width.packet_len());
+    request[..8].copy_from_slice(&width.mem_read_head());
+    request[8..middle].copy_from_slice(&at.to_le_bytes()[..middle - 8]);
+    request[middle..end].copy_from_slice(&len.to_le_bytes()[..end - middle]);
+    channel.write_all(&request[..end]).unwrap();
     channel.flush().unwrap();
 }
 
@@ -150,19 +152,19 @@ impl Host for Bare {
 
     fn fetch(&mut self, setting: &Setting, channel: &mut Wire) -> u64 {
         let mut sink = Kept(&mut self.0, 0);
-        let mut buf = vec![0; 65_536];
+        let (mut buf, width) = (vec![0; 65_536], setting.width);
         channel.read_exact(&mut buf[..48]).unwrap();
         channel.write_all(&[0; 48]).unwrap();
-        channel.read_exact(&mut buf[..24]).unwrap();
-        let table = (setting.others + setting.regions.len()) * 64;
-        ask(channel, 1 << 60, table as u64);
+        channel.read_exact(&mut buf[..width.packet_len()]).unwrap();
+        let table = (setting.others + setting.regions.len()) * width.entry_len();
+        ask(width, channel, width.half(), table as u64);
         channel.read_exact(&mut buf[..table]).unwrap();
         let mut at = 0;
         for len in &setting.regions {
             let end = at + len;
             while at < end {
                 let n = (end - at).min(4096);
-                ask(channel, at, n);
+                ask(width, channel, at, n);
                 let n = channel.read(&mut buf[..n as usize]).unwrap();
                 if setting.backend == Backend::Usb && n.is_multiple_of(512) {
                     let _ = channel.read(&mut []);

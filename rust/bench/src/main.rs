@@ -1,10 +1,10 @@
 //! Prints what the host costs. `cargo run --release -p bench`
 //!
-//! `bench once bare|worgesli serial|usb MIB` makes one fetch and prints nothing, for a count of its instructions.
+//! `bench once bare|worgesli serial|usb MIB [32]` makes one fetch, of a device of 64 bits or 32, and prints nothing, for a count of its instructions.
 mod steps;
 
 use bench::{fetches, table, Bare, Files, Host, Keep, Setting, Worgesli};
-use device::Division;
+use device::{Division, Width};
 use worgesli::Backend;
 
 const MIB: u64 = 1 << 20;
@@ -20,9 +20,13 @@ fn line(what: &str, setting: &Setting, rounds: usize) {
 
 /// One fetch, bytes counted.
 fn once(args: &[String]) {
-    let [host, backend, mib] = args else { panic!("bench once bare|worgesli serial|usb MIB") };
+    let (host, backend, mib, width) = match args {
+        [host, backend, mib] => (host, backend, mib, Width::Bits64),
+        [host, backend, mib, width] if width == "32" => (host, backend, mib, Width::Bits32),
+        _ => panic!("bench once bare|worgesli serial|usb MIB [32]"),
+    };
     let backend = if backend == "usb" { Backend::Usb } else { Backend::Serial };
-    let setting = Setting::new(backend, mib.parse::<u64>().expect("a number of MiB") * MIB);
+    let setting = Setting { width, ..Setting::new(backend, mib.parse::<u64>().expect("a number of MiB") * MIB) };
     let mut wire = setting.wire();
     let kept = match host.as_str() {
         "bare" => Bare(Keep::Count).fetch(&setting, &mut wire),
@@ -68,6 +72,10 @@ fn main() -> std::io::Result<()> {
         let setting = Setting { others, ..Setting::new(Backend::Usb, 16 * MIB) };
         line(&format!("16 MiB, {} entries, the last preferred", others + 1), &setting, 15);
     }
+    for others in [0, 1259] {
+        let setting = Setting { width: Width::Bits32, others, ..Setting::new(Backend::Usb, 16 * MIB) };
+        line(&format!("16 MiB, {} entries of 32 bits", others + 1), &setting, 15);
+    }
     for n in [1, 16, 256, 1024] {
         let setting = Setting { regions: vec![16 * MIB / n; n as usize], ..Setting::new(Backend::Usb, 0) };
         line(&format!("16 MiB in {n} regions"), &setting, 15);
@@ -77,7 +85,8 @@ fn main() -> std::io::Result<()> {
         line(&format!("16 MiB, {names} names, {slots} slots"), &setting, 15);
     }
     files();
-    steps::print(1, 0);
-    steps::print(1024, 64);
+    steps::print(Width::Bits64, 1, 0);
+    steps::print(Width::Bits64, 1024, 64);
+    steps::print(Width::Bits32, 1260, 64);
     Ok(())
 }

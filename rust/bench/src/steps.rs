@@ -1,5 +1,5 @@
 //! The cost of one step, in each phase: the archive's function called directly, again and again with the same numbers.
-use device::Region;
+use device::{Region, Width};
 use std::hint::black_box;
 use std::time::Instant;
 use worgesli::{raw, Backend, Command, ImageSet, Mode, NameList, Session};
@@ -42,9 +42,9 @@ fn least(mut call: impl FnMut()) -> f64 {
     (0..30).map(|_| batch()).fold(f64::MAX, f64::min)
 }
 
-fn lent(entries: usize, many: usize) -> Lent {
-    let mut table: Vec<u8> = Region::new("OTHER.BIN", 0, 4096).unpreferred().bytes().repeat(entries - 1);
-    table.extend(Region::new("DDR.BIN", 1 << 20, 1 << 30).bytes());
+fn lent(width: Width, entries: usize, many: usize) -> Lent {
+    let mut table: Vec<u8> = Region::new("OTHER.BIN", 0, 4096).unpreferred().bytes(width).repeat(entries - 1);
+    table.extend(Region::new("DDR.BIN", 1 << 20, 1 << 30).bytes(width));
     let images: Vec<Option<Vec<u8>>> = (0..many).map(|i| Some(vec![i as u8; 16])).collect();
     let names: Vec<String> = (1..=many).map(|i| if i == many { "DDR".into() } else { format!("name{i:014}") }).collect();
     Lent {
@@ -56,10 +56,13 @@ fn lent(entries: usize, many: usize) -> Lent {
     }
 }
 
-/// Prints the steps of a dump and of a command, with so many entries, and so many names and slots.
-pub fn print(entries: usize, many: usize) {
-    println!("one step, in place and by value, ns (least of 30 batches of 2,000), {entries} entries in the table, {many} names and slots");
-    let mut l = lent(entries, many);
+/// Prints the steps of a dump and of a command, with so many entries of this width, and so many names and slots.
+pub fn print(width: Width, entries: usize, many: usize) {
+    println!(
+        "one step, in place and by value, ns (least of 30 batches of 2,000), {entries} entries of {} bits in the table, {many} names and slots",
+        width.bits()
+    );
+    let mut l = lent(width, entries, many);
     let start = *Session::open(Mode::MemoryDebug, Some(Command::Nop), Backend::Usb).raw();
     let hello = device::hello(2);
     l.line("packet: one byte", start, &hello[..1]);
@@ -70,7 +73,7 @@ pub fn print(entries: usize, many: usize) {
     let switched = l.step(exec, &[7; 4096]).session;
     l.line("switched", switched, &[]);
     let bytes = l.table.clone();
-    let table = l.step(start, &device::mem_debug64(0, bytes.len() as u64)).session;
+    let table = l.step(start, &width.mem_debug(0, bytes.len() as u64)).session;
     l.line("table: 64 bytes", table, &bytes[..64]);
     l.line("table: all", table, &bytes);
     let between = l.step(table, &bytes).session;

@@ -1,6 +1,7 @@
 //! Fetches the memory of a simulated device over a socket pair that divides its bytes at random, into files, goes on with a saved run in the
-//! middle of it, and compares the files with the device's memory. `demo FOLDER [SEED]`; the files go into a new folder in FOLDER.
-use device::{Device, Memory, Region, Rng, Socket};
+//! middle of it, and compares the files with the device's memory: once of a device of 64 bits, once of an older one of 32, without being told which it is.
+//! `demo FOLDER [SEED]`; the files go into a new folder in FOLDER.
+use device::{Device, Memory, Region, Rng, Socket, Width};
 use std::error::Error;
 use std::fs;
 use std::path::{Path, PathBuf};
@@ -21,16 +22,17 @@ fn fresh(folder: &Path) -> std::io::Result<PathBuf> {
 }
 
 /// A recorder's memory: audio buffers, two of one filename, an empty region, one that is not preferred, one up to the last address.
-fn regions(rng: &mut Rng) -> Vec<Region> {
+fn regions(width: Width, rng: &mut Rng) -> Vec<Region> {
     let mut len = |most| rng.below(most);
+    let quarter = width.half() / 2;
     vec![
         Region::new("DDRCS0_0.BIN", 0x8000_0000, 3 << 20),
         Region::new("OCIMEM.BIN", 0x1468_0000, 256 << 10),
-        Region::new("TAKE.BIN", 0x1_0000_0000, 100_000 + len(1 << 20)),
-        Region::new("SCRATCH.BIN", 0x2_0000_0000, 1 << 20).unpreferred(),
-        Region::new("TAKE.BIN", 0x3_0000_0000, 512 * (1 + len(2000))),
+        Region::new("TAKE.BIN", quarter, 100_000 + len(1 << 20)),
+        Region::new("SCRATCH.BIN", 2 * quarter + (1 << 24), 1 << 20).unpreferred(),
+        Region::new("TAKE.BIN", 3 * quarter, 512 * (1 + len(2000))),
         Region::new("EMPTY.BIN", 0x10, 0),
-        Region::new("TOP.BIN", 0u64.wrapping_sub(70_001), 70_001),
+        Region::new("TOP.BIN", width.end_less(70_001), 70_001),
     ]
 }
 
@@ -52,17 +54,25 @@ fn main() -> Result<(), Box<dyn Error>> {
         Some(seed) => seed.parse()?,
         None => SystemTime::now().duration_since(SystemTime::UNIX_EPOCH)?.as_nanos() as u64 % 1_000_000,
     };
-    let regions = regions(&mut Rng::new(seed));
-    let memory = Memory::new(seed, 0x4000_0000, &regions);
     let folder = fresh(folder.as_ref())?;
-    println!("seed {seed}; a device with {} regions; USB rules; over a socket pair", regions.len());
+    for width in [Width::Bits64, Width::Bits32] {
+        fetch(width, seed, &folder.join(format!("{}-bit", width.bits())))?;
+    }
+    Ok(())
+}
+
+/// A fetch from a device of this width.
+fn fetch(width: Width, seed: u64, folder: &Path) -> Result<(), Box<dyn Error>> {
+    let regions = regions(width, &mut Rng::new(seed));
+    let memory = Memory::of(width, seed, 0x2000_0000, &regions);
+    println!("seed {seed}; a device of {} bits with {} regions; USB rules; over a socket pair", width.bits(), regions.len());
 
     let (mut host, far) = Socket::pair()?;
     let far_device = Device::dump(memory.clone());
     let far = std::thread::spawn(move || device::serve(far_device, far, seed));
     let start = Instant::now();
     let options = Options::new(Backend::Usb, Mode::MemoryDebug);
-    let (saved, manifest) = begin(&options, &mut host, &folder)?;
+    let (saved, manifest) = begin(&options, &mut host, folder)?;
     println!(
         "in the middle of a region the run was saved, {} bytes, and dropped with its files; another goes on with it",
         saved.len()
@@ -74,7 +84,10 @@ fn main() -> Result<(), Box<dyn Error>> {
     drop(host);
     let (device, pieces) = far.join().map_err(|_| "the device failed")??;
     let Outcome::Dumped { reads: requests } = outcome else { return Err("the device offered no memory".into()) };
-    println!("{requests} memory reads sent, {} heard; the device sent its bytes in {pieces} pieces at random", device.reads());
+    let (told, heard) = (run.session().width() as u32, device.reads());
+    println!(
+        "{requests} memory reads sent, of {told} bits, {heard} heard; the device sent its bytes in {pieces} pieces at random"
+    );
     println!(
         "{reads} reads of the socket, {short} gave fewer bytes than asked for; {empty} empty reads; {} ms",
         time.as_millis()
@@ -91,7 +104,7 @@ fn main() -> Result<(), Box<dyn Error>> {
         println!("    {:<16} {:>9} bytes from {:#018x}: {said}", kept.file, r.len, r.base);
     }
     let (preferred, came) = (regions.iter().filter(|r| r.save_pref != 0).count(), sink.regions().len());
-    let all = came == preferred && requests == device.reads() && device.wrong().is_none();
+    let all = came == preferred && requests == heard && told == width.bits() && device.wrong().is_none();
     if wrong > 0 || !all {
         return Err(format!("{wrong} files differ; {came} of {preferred} regions came").into());
     }

@@ -8,6 +8,7 @@ mod report;
 mod rng;
 mod socket;
 mod tape;
+mod width;
 mod wire;
 
 pub use bulk::Bulk;
@@ -18,6 +19,7 @@ pub use report::not_run;
 pub use rng::{mix, Rng};
 pub use socket::{serve, serve_until, Socket};
 pub use tape::Tape;
+pub use width::Width;
 pub use wire::{Division, Faults, Wire};
 
 use std::collections::VecDeque;
@@ -35,7 +37,7 @@ enum Piece {
     Memory { at: u64, len: u64 },
 }
 
-/// Plays its turns; after the last it answers each MemRead64 with the memory's bare bytes.
+/// Plays its turns; after the last it answers each memory read of its memory's width, and no other, with the memory's bare bytes.
 pub struct Device {
     pub memory: Memory,
     turns: VecDeque<Turn>,
@@ -70,14 +72,14 @@ impl Device {
         device
     }
 
-    /// Offers its memory: Hello, then MemDebug64.
+    /// Offers its memory: Hello, then MemDebug or MemDebug64.
     pub fn dump(memory: Memory) -> Device {
         Device::dump_after(hello(2), memory)
     }
 
     /// The same behind another hello.
     pub fn dump_after(hello: Vec<u8>, memory: Memory) -> Device {
-        let offer = mem_debug64(memory.table_at(), memory.table_len());
+        let offer = memory.width().mem_debug(memory.table_at(), memory.table_len());
         Device::new(memory, vec![Turn::Say(hello), Turn::Hear(48), Turn::Say(offer)])
     }
 
@@ -134,25 +136,27 @@ impl Device {
                 self.play();
                 n
             } else {
-                let n = (24 - self.held).min(bytes.len());
+                let end = if self.held < 8 { 8 } else { self.memory.width().packet_len() };
+                let n = (end - self.held).min(bytes.len());
                 self.request[self.held..self.held + n].copy_from_slice(&bytes[..n]);
                 self.held += n;
-                if self.held == 24 {
-                    self.held = 0;
-                    self.requested();
-                }
+                self.requested();
                 n
             };
             bytes = &bytes[n..];
         }
     }
 
+    /// Looks at a memory read as soon as its header is there, and answers it when it is whole.
     fn requested(&mut self) {
-        let r = &self.request;
-        let Some((at, len)) = mem_read(r) else {
-            self.wrong.get_or_insert_with(|| format!("no MemRead64: {r:?}"));
+        let (width, r) = (self.memory.width(), &self.request[..self.held]);
+        if r.len() == 8 && *r != width.mem_read_head() {
+            self.wrong.get_or_insert_with(|| format!("no memory read of {width:?}: {r:?}"));
+            self.held = 0;
             return;
-        };
+        }
+        let Some((at, len)) = mem_read(r) else { return };
+        self.held = 0;
         if self.queued > 0 {
             self.wrong.get_or_insert_with(|| format!("asked for {len} bytes at {at:#x} with {} still queued", self.queued));
         }
@@ -213,8 +217,8 @@ impl Device {
         self.reads
     }
 
-    /// The first thing the host did that a host does not do in a dump: bytes that are no MemRead64, or a request before the last one was
-    /// fetched.
+    /// The first thing the host did that a host does not do in a dump: bytes that are no memory read of the device's width, or a request before the
+    /// last one was fetched.
     pub fn wrong(&self) -> Option<&str> {
         self.wrong.as_deref()
     }

@@ -1,5 +1,5 @@
 //! A device's memory: a function from addresses to bytes, with a table of regions in it.
-use crate::{mix, Rng};
+use crate::{mix, Rng, Width};
 
 /// What an entry of the memory table says.
 #[derive(Clone, Copy, Debug, PartialEq, Eq)]
@@ -29,13 +29,15 @@ impl Region {
         Region { save_pref: 0, ..self }
     }
 
-    pub fn bytes(&self) -> [u8; 64] {
-        let mut e = [0; 64];
-        e[..8].copy_from_slice(&self.save_pref.to_le_bytes());
-        e[8..16].copy_from_slice(&self.base.to_le_bytes());
-        e[16..24].copy_from_slice(&self.len.to_le_bytes());
-        e[24..44].copy_from_slice(&self.description);
-        e[44..].copy_from_slice(&self.filename);
+    /// The entry in a table of this width.
+    pub fn bytes(&self, width: Width) -> Vec<u8> {
+        let mut e = Vec::with_capacity(width.entry_len());
+        for n in [self.save_pref, self.base, self.len] {
+            assert_eq!(n >> (width.bits() - 1) >> 1, 0, "a number that is wider than {width:?}");
+            e.extend(&n.to_le_bytes()[..width.number_len()]);
+        }
+        e.extend(self.description);
+        e.extend(self.filename);
         e
     }
 }
@@ -54,31 +56,48 @@ enum Fill {
 /// Bytes at random, and the table at its address.
 #[derive(Clone, Debug)]
 pub struct Memory {
+    width: Width,
     fill: Fill,
     table_at: u64,
     table: Vec<u8>,
 }
 
+/// Of 64 bits, unless it is said.
 impl Memory {
     /// Bytes that repeat after 65,521 addresses.
     pub fn new(seed: u64, table_at: u64, regions: &[Region]) -> Memory {
-        Memory::with_table(seed, table_at, regions.iter().flat_map(Region::bytes).collect())
+        Memory::of(Width::Bits64, seed, table_at, regions)
+    }
+
+    /// The same of this width.
+    pub fn of(width: Width, seed: u64, table_at: u64, regions: &[Region]) -> Memory {
+        let table = regions.iter().flat_map(|r| r.bytes(width)).collect();
+        Memory::with_table(seed, table_at, table).wide(width)
     }
 
     pub fn with_table(seed: u64, table_at: u64, table: Vec<u8>) -> Memory {
         let mut pattern = vec![0; PERIOD];
         Rng::new(seed).fill(&mut pattern);
         pattern.extend_from_within(..);
-        Memory { fill: Fill::Pattern(pattern), table_at, table }
+        Memory { width: Width::Bits64, fill: Fill::Pattern(pattern), table_at, table }
     }
 
     /// Bytes that do not repeat. It costs little to make and much to read.
     pub fn mixed(seed: u64, table_at: u64, table: Vec<u8>) -> Memory {
-        Memory { fill: Fill::Mixed(seed), table_at, table }
+        Memory { width: Width::Bits64, fill: Fill::Mixed(seed), table_at, table }
     }
 
     pub fn empty() -> Memory {
-        Memory { fill: Fill::Pattern(vec![0; 2 * PERIOD]), table_at: 0, table: Vec::new() }
+        Memory { width: Width::Bits64, fill: Fill::Pattern(vec![0; 2 * PERIOD]), table_at: 0, table: Vec::new() }
+    }
+
+    /// The memory of a board of this width.
+    pub fn wide(self, width: Width) -> Memory {
+        Memory { width, ..self }
+    }
+
+    pub fn width(&self) -> Width {
+        self.width
     }
 
     pub fn table_at(&self) -> u64 {
@@ -93,7 +112,7 @@ impl Memory {
         &self.table
     }
 
-    /// The bytes at an address. Addresses wrap.
+    /// The bytes at an address. Addresses wrap at 2^64, whatever the width.
     pub fn read(&self, at: u64, to: &mut [u8]) {
         match &self.fill {
             Fill::Pattern(pattern) => repeat(pattern, at, to),

@@ -1,4 +1,5 @@
-//! The packets that a device says, and the one that it hears in a dump.
+//! The packets that a device says, and those that it hears in a dump.
+use crate::Width;
 
 /// A command, the length of the whole, and words of 4 bytes.
 pub fn packet(command: u32, words: &[u32]) -> Vec<u8> {
@@ -50,11 +51,16 @@ pub fn execute_resp(command: u32, len: u32) -> Vec<u8> {
 }
 
 pub fn mem_debug64(at: u64, len: u64) -> Vec<u8> {
-    packet64(0x10, &[at, len])
+    Width::Bits64.mem_debug(at, len)
 }
 
-/// The address and length of a MemRead64.
+/// The address and length of a memory read of either width.
 pub fn mem_read(packet: &[u8]) -> Option<(u64, u64)> {
+    let width = Width::BOTH.into_iter().find(|w| packet.len() == w.packet_len() && packet[..8] == w.mem_read_head())?;
+    let word = |at: usize| u32::from_le_bytes(packet[at..at + 4].try_into().unwrap()).into();
     let long = |at: usize| u64::from_le_bytes(packet[at..at + 8].try_into().unwrap());
-    (packet.len() == 24 && packet[..8] == [0x11, 0, 0, 0, 24, 0, 0, 0]).then(|| (long(8), long(16)))
+    Some(match width {
+        Width::Bits32 => (word(8), word(12)),
+        Width::Bits64 => (long(8), long(16)),
+    })
 }

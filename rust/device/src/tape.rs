@@ -34,7 +34,8 @@ impl Tape {
     }
 
     pub fn hear(&mut self, packet: &[u8]) {
-        if self.answers > 0 && mem_read(packet).is_some_and(|(_, len)| len <= LONGEST) {
+        let ours = packet.len() == self.device.memory.width().packet_len();
+        if ours && self.answers > 0 && mem_read(packet).is_some_and(|(_, len)| len <= LONGEST) {
             self.answers -= 1;
             self.device.hear(packet);
             self.keep();

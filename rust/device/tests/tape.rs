@@ -1,9 +1,5 @@
 //! Memory that does not repeat, and the device whose bytes are kept.
-use device::{hello, mem_debug64, mem_read, mix, packet64, reset_resp, Memory, Tape};
-
-fn request(at: u64, len: u64) -> Vec<u8> {
-    packet64(0x11, &[at, len])
-}
+use device::{hello, mem_read, mix, packet, packet64, reset_resp, Memory, Tape, Width};
 
 /// The byte at an address, from its definition.
 fn byte(seed: u64, table_at: u64, table: &[u8], at: u64) -> u8 {
@@ -29,28 +25,38 @@ fn mixed_memory_is_read_as_it_is_defined() {
 
 #[test]
 fn a_tape_answers_memory_reads_alone_and_keeps_what_it_said() {
-    let memory = Memory::mixed(1, 64, vec![9; 64]);
-    let opening = [hello(2), mem_debug64(64, 64)].concat();
-    let mut tape = Tape::new(&opening, memory.clone(), 2);
-    assert_eq!(tape.left(), opening);
-    tape.at = 48;
-    for ignored in [&hello(2)[..], &[], &reset_resp(), &request(0, 1 << 21), &request(0, 3)[..23], &[0x11; 24]] {
-        tape.hear(ignored);
-        assert_eq!(tape.left(), mem_debug64(64, 64));
+    for (width, other) in [(Width::Bits32, Width::Bits64), (Width::Bits64, Width::Bits32)] {
+        let (memory, request) = (Memory::mixed(1, 64, vec![9; 64]).wide(width), |at, len| width.mem_read(at, len));
+        let offer = width.mem_debug(64, 64);
+        let opening = [hello(2), offer.clone()].concat();
+        let mut tape = Tape::new(&opening, memory.clone(), 2);
+        assert_eq!(tape.left(), opening);
+        tape.at = 48;
+        let short = &request(0, 3)[..width.packet_len() - 1];
+        let no_read = vec![width.mem_read_head()[0]; width.packet_len()];
+        for ignored in [&hello(2)[..], &[], &reset_resp(), &request(0, 1 << 21), short, &no_read, &other.mem_read(64, 64)] {
+            tape.hear(ignored);
+            assert_eq!(tape.left(), offer);
+        }
+        let last = width.end_less(1);
+        tape.hear(&request(64, 64));
+        tape.hear(&request(last, 5000));
+        let all = [opening, memory.bytes(64, 64), memory.bytes(last, 5000)].concat();
+        assert_eq!((&tape.said, tape.left()), (&all, &all[48..]));
+        // it answers two
+        tape.hear(&request(0, 1));
+        assert_eq!(tape.said, all);
     }
-    tape.hear(&request(64, 64));
-    tape.hear(&request(u64::MAX, 5000));
-    let all = [opening, memory.bytes(64, 64), memory.bytes(u64::MAX, 5000)].concat();
-    assert_eq!((&tape.said, tape.left()), (&all, &all[48..]));
-    // it answers two
-    tape.hear(&request(0, 1));
-    assert_eq!(tape.said, all);
 }
 
 #[test]
 fn a_memory_read_is_told() {
-    assert_eq!(mem_read(&request(3, 1 << 40)), Some((3, 1 << 40)));
-    assert_eq!(mem_read(&packet64(0x10, &[3, 4])), None);
-    assert_eq!(mem_read(&[request(3, 4), vec![0]].concat()), None);
-    assert_eq!(mem_read(&[]), None);
+    let (narrow, wide) = (packet(0x0a, &[u32::MAX, 7]), packet64(0x11, &[3, 1 << 40]));
+    assert_eq!((mem_read(&narrow), mem_read(&wide)), (Some((0xffff_ffff, 7)), Some((3, 1 << 40))));
+    for none in [packet(9, &[3, 4]), packet64(0x10, &[3, 4]), packet(0x11, &[3, 4]), packet64(0x0a, &[3, 4]), Vec::new()] {
+        assert_eq!(mem_read(&none), None);
+    }
+    for packet in [narrow, wide] {
+        assert_eq!((mem_read(&packet[1..]), mem_read(&[&packet[..], &[0]].concat())), (None, None));
+    }
 }

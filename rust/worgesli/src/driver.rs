@@ -142,7 +142,7 @@ impl Driver {
 
     /// The entries of the memory table: the device's regions, chosen or not.
     pub fn entries(&self) -> impl Iterator<Item = Entry> + '_ {
-        (0..).map_while(|i| entry_at(self.table(), i))
+        (0..).map_while(|i| entry_at(self.table(), self.session.width(), i))
     }
 
     /// Other names choose the regions from the next step on: for who looks at the table first. A run that is saved is restored with these.
@@ -482,7 +482,7 @@ impl Driver {
 
     /// The entry of a region that the session opened in this table.
     fn entry(&self, place: usize) -> Entry {
-        entry_at(&self.table, place).expect("an opened region has an entry")
+        entry_at(&self.table, self.session.width(), place).expect("an opened region has an entry")
     }
 
     fn open<S: Sink + ?Sized>(&mut self, sink: &mut S, place: usize) -> Result<(), Error> {

@@ -31,7 +31,7 @@ pub use error::Error;
 pub use escape::{escape, unescape};
 pub use folder::Folder;
 pub use manifest::{read_manifest, Kept, State};
-pub use numbers::{Answer, Backend, Command, Mode, Phase, Refusal};
+pub use numbers::{Answer, Backend, Command, Mode, Phase, Refusal, Width};
 pub use options::Options;
 pub use packet::{parse_packet, reset, Body, Packet, Unk};
 pub use packets::Packets;
@@ -39,7 +39,7 @@ pub use saved::RestoreError;
 pub use serial::Serial;
 pub use session::{Session, OUT, TABLE};
 pub use sink::{Count, Sink, Unkept};
-pub use table::{entry_at, next_selected, utf8, Entry, ENTRY};
+pub use table::{entry_at, next_selected, utf8, Entry};
 
 /// The guide's code is compiled with the tests of the documentation.
 #[cfg(doctest)]

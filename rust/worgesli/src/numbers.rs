@@ -1,4 +1,4 @@
-//! What the interface says in numbers: modes, commands, backends, phases, answers and refusals.
+//! What the interface says in numbers: modes, commands, backends, widths, phases, answers and refusals.
 use std::fmt;
 
 /// What the host asks of the device.
@@ -54,6 +54,34 @@ pub enum Backend {
     Serial = 0,
     /// bulk endpoints
     Usb = 1,
+}
+
+/// How wide a device's addresses and lengths are, in its memory debug and in its memory table.
+#[derive(Clone, Copy, Debug, PartialEq, Eq)]
+#[repr(u64)]
+pub enum Width {
+    /// older boards: MemDebug, MemRead
+    Bits32 = 32,
+    /// MemDebug64, MemRead64
+    Bits64 = 64,
+}
+
+impl Width {
+    /// Both.
+    pub const BOTH: [Width; 2] = [Width::Bits32, Width::Bits64];
+
+    /// The width of a number, if it has one.
+    pub fn from_number(n: u64) -> Option<Width> {
+        Width::BOTH.into_iter().find(|w| *w as u64 == n)
+    }
+
+    /// The bytes of an entry of the memory table.
+    pub const fn entry_len(self) -> usize {
+        match self {
+            Width::Bits32 => 52,
+            Width::Bits64 => 64,
+        }
+    }
 }
 
 /// Where a session stands.
@@ -128,7 +156,7 @@ impl Refusal {
         }
     }
 
-    /// From 1 to 23.
+    /// From 1 to 24.
     pub fn number(self) -> u8 {
         self.0
     }
@@ -159,6 +187,7 @@ impl Refusal {
             21 => "the 20 bytes of a region's filename are not UTF-8",
             22 => "a region ends above 2^64",
             23 => "the channel was closed before the end",
+            24 => "a region of a 32-bit device ends above 2^32",
             _ => "no such refusal",
         }
     }
@@ -186,8 +215,8 @@ mod tests {
     /// The words are those of the C header.
     #[test]
     fn words_of_the_header() {
-        let ours: Vec<String> = (1..=23).map(|n| format!("{n}\t{}", Refusal(n).words())).collect();
+        let ours: Vec<String> = (1..=24).map(|n| format!("{n}\t{}", Refusal(n).words())).collect();
         assert_eq!(tool("refusals").lines().collect::<Vec<_>>(), ours);
-        assert_eq!((Refusal(0).words(), Refusal(24).words()), ("no such refusal", "no such refusal"));
+        assert_eq!((Refusal(0).words(), Refusal(25).words()), ("no such refusal", "no such refusal"));
     }
 }

@@ -4,7 +4,7 @@ use crate::{raw, Command, Mode, Refusal};
 /// The six unused words of a hello.
 pub type Unk = [u32; 6];
 
-/// A packet's body, by kind; the fields have the original's names.
+/// A packet's body, by kind; the fields have the original's names. The original has no MemDebug and MemRead.
 #[derive(Clone, Copy, Debug, PartialEq, Eq)]
 #[non_exhaustive]
 #[allow(missing_docs)]
@@ -23,6 +23,10 @@ pub enum Body {
     DoneResp { status: u32 },
     /// ResetResp (8)
     ResetResp,
+    /// MemDebug (9): an older device offers its memory, whose table is there
+    DebugReq { addr: u32, len: u32 },
+    /// MemRead (0x0a): the host asks an older device for memory
+    ReadMemReq { addr: u32, len: u32 },
     /// CommandReady (0x0b): a device waits for a command
     CommandReady,
     /// ExecuteResp (0x0e): a reply of this length is there
@@ -68,6 +72,8 @@ fn body(p: &raw::Packet) -> Option<Body> {
         0x05 => Body::DoneReq,
         0x06 => Body::DoneResp { status: first },
         0x08 => Body::ResetResp,
+        0x09 => Body::DebugReq { addr: first, len: second },
+        0x0a => Body::ReadMemReq { addr: first, len: second },
         0x0b => Body::CommandReady,
         0x0e => Body::ExecResp { command: Command::from_number(p.value)?, len: first },
         0x0f => Body::ExecData { command: Command::from_number(p.value)? },

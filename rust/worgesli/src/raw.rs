@@ -12,10 +12,10 @@ pub(crate) mod interface;
 use std::mem::{offset_of, size_of};
 
 /// The number of this interface. A program of this crate links only with an archive of the same number.
-pub const ABI: u32 = 1;
+pub const ABI: u32 = 2;
 
 #[used]
-static LINKED: extern "C" fn() -> u32 = worgesli_abi_1;
+static LINKED: extern "C" fn() -> u32 = worgesli_abi_2;
 
 /// No command.
 pub const NO_COMMAND: u32 = 0xffff_ffff;
@@ -40,6 +40,8 @@ pub struct Session {
     pub outstanding: u64,
     /// 1: an empty read is due
     pub due: u64,
+    /// of the memory debug that came, 32 or 64; before one came, 64
+    pub width: u64,
     pub window: [u8; 48],
 }
 
@@ -112,10 +114,10 @@ pub struct Packet {
 // The layout that the archive was compiled for (x86-64, System V). Fields and functions are held to the Rattle source by the tests.
 const _: () = {
     assert!(size_of::<usize>() == 8);
-    assert!(size_of::<Session>() == 128);
+    assert!(size_of::<Session>() == 136);
     assert!(offset_of!(Session, reads) == 16);
-    assert!(offset_of!(Session, window) == 80);
-    assert!(size_of::<Stepped>() == 160);
+    assert!(offset_of!(Session, window) == 88);
+    assert!(size_of::<Stepped>() == 168);
     assert!(size_of::<Placed>() == 40);
     assert!(size_of::<Entry>() == 72);
     assert!(size_of::<Range>() == 24);
@@ -125,7 +127,7 @@ const _: () = {
 // Unsafe: that these declarations agree with the archive is on us. The tests hold them to its source.
 unsafe extern "C" {
     pub safe fn worgesli_abi() -> u32;
-    pub safe fn worgesli_abi_1() -> u32;
+    pub safe fn worgesli_abi_2() -> u32;
     pub safe fn worgesli_open(mode: u32, command: u32, backend: u32) -> Session;
     pub fn worgesli_step(
         s: Session,
@@ -166,10 +168,11 @@ unsafe extern "C" {
     pub fn worgesli_check_images(set: *const u8, set_len: usize) -> u32;
     pub fn worgesli_check_names(names: *const u8, names_len: usize) -> u32;
     pub fn worgesli_image_range(set: *const u8, set_len: usize, id: u64, offset: u64, len: u64) -> Range;
-    pub fn worgesli_entry_at(table: *const u8, table_len: usize, i: usize) -> Entry;
+    pub fn worgesli_entry_at(table: *const u8, table_len: usize, width: u64, i: usize) -> Entry;
     pub fn worgesli_next_selected(
         table: *const u8,
         table_len: usize,
+        width: u64,
         entries: usize,
         names: *const u8,
         names_len: usize,
@@ -214,7 +217,7 @@ pub fn step_in_place(
     out: &mut [u8],
 ) -> Placed {
     let s: *mut Session = s;
-    // Safe: as above. The session's parts lie where the assertions say: four u32, eight u64 (a usize is one) and the window.
+    // Safe: as above. The session's parts lie where the assertions say: four u32, nine u64 (a usize is one) and the window.
     unsafe {
         let (numbers, window) = (s.byte_add(offset_of!(Session, reads)), s.byte_add(offset_of!(Session, window)));
         call!(worgesli_step_in_place(s.cast(), numbers.cast(), window.cast()), delivery, set, names; table, reply, out)
@@ -253,17 +256,17 @@ pub fn image_range(set: &[u8], id: u64, offset: u64, len: u64) -> Range {
     unsafe { worgesli_image_range(set.as_ptr(), set.len(), id, offset, len) }
 }
 
-/// Entry i of a table.
-pub fn entry_at(table: &[u8], i: usize) -> Entry {
+/// Entry i of a table of this width, 32 or 64; of any other there is none.
+pub fn entry_at(table: &[u8], width: u64, i: usize) -> Entry {
     // Safe: a live slice, which is only read.
-    unsafe { worgesli_entry_at(table.as_ptr(), table.len(), i) }
+    unsafe { worgesli_entry_at(table.as_ptr(), table.len(), width, i) }
 }
 
 /// The first selected entry at or after `from` and before `entries`, else `entries` (`from` if that is not below it).
-pub fn next_selected(table: &[u8], entries: usize, names: &[u8], from: usize) -> usize {
+pub fn next_selected(table: &[u8], width: u64, entries: usize, names: &[u8], from: usize) -> usize {
     let (table, table_len) = (table.as_ptr(), table.len());
     // Safe: two live slices, which are only read.
-    unsafe { worgesli_next_selected(table, table_len, entries, names.as_ptr(), names.len(), from) }
+    unsafe { worgesli_next_selected(table, table_len, width, entries, names.as_ptr(), names.len(), from) }
 }
 
 /// Whether bytes are UTF-8.

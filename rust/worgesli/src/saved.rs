@@ -5,12 +5,14 @@
 use crate::driver::{Owed, Region, INPUT};
 use crate::session::{OUT, TABLE};
 use crate::sha256::Sha256;
-use crate::{raw, Driver, ImageSet, NameList, Options, Phase, Refusal, Session};
+use crate::{raw, Driver, ImageSet, NameList, Options, Phase, Refusal, Session, Width};
 use std::fmt;
 
 const MAGIC: &[u8; 8] = b"worgesli";
 /// The form of the bytes: another where a session or what is kept beside it is another.
-const VERSION: u64 = 1;
+const VERSION: u64 = 2;
+/// The form before, which is read too. Its sessions have no width: it is 64 bits.
+const WITHOUT_WIDTH: u64 = 1;
 const DIGEST: usize = 32;
 
 /// Why bytes are no run to go on with. `Debug` says what `Display` says.
@@ -33,7 +35,7 @@ impl fmt::Display for RestoreError {
     fn fmt(&self, f: &mut fmt::Formatter<'_>) -> fmt::Result {
         match self {
             RestoreError::Damaged => write!(f, "these bytes are no saved run, or not all of one"),
-            RestoreError::Version(v) => write!(f, "the run was saved in form {v}, and this is form {VERSION}"),
+            RestoreError::Version(v) => write!(f, "the run was saved in form {v}, and forms up to {VERSION} are known"),
             RestoreError::OtherOpening => write!(f, "the run was opened with another mode, command or backend"),
             RestoreError::OtherBundles => write!(f, "the run was opened with other images or names"),
             RestoreError::Refused(why) => why.fmt(f),
@@ -101,11 +103,11 @@ impl<'a> From<'a> {
 fn put_session(to: &mut Vec<u8>, s: &raw::Session) {
     let head = [s.mode, s.command, s.backend, s.phase].map(u64::from);
     put(to, &head);
-    put(to, &[s.reads, s.count as u64, s.at as u64, s.base, s.len, s.done, s.outstanding, s.due]);
+    put(to, &[s.reads, s.count as u64, s.at as u64, s.base, s.len, s.done, s.outstanding, s.due, s.width]);
     to.extend(s.window);
 }
 
-fn session(from: &mut From) -> Option<raw::Session> {
+fn session(from: &mut From, version: u64) -> Option<raw::Session> {
     let mut word = || u32::try_from(from.number()?).ok();
     let (mode, command, backend, phase) = (word()?, word()?, word()?, word()?);
     Some(raw::Session {
@@ -121,6 +123,7 @@ fn session(from: &mut From) -> Option<raw::Session> {
         done: from.number()?,
         outstanding: from.number()?,
         due: from.number()?,
+        width: if version == WITHOUT_WIDTH { Width::Bits64 as u64 } else { from.number()? },
         window: from.take(48)?.try_into().ok()?,
     })
 }
@@ -200,14 +203,14 @@ impl Options {
         if digest(&[body]) != sum {
             return Err(RestoreError::Damaged);
         }
-        match from.number() {
-            Some(VERSION) => {}
-            version => return Err(version.map_or(RestoreError::Damaged, RestoreError::Version)),
+        let version = from.number().ok_or(RestoreError::Damaged)?;
+        if !matches!(version, WITHOUT_WIDTH | VERSION) {
+            return Err(RestoreError::Version(version));
         }
         if from.take(DIGEST) != Some(&bundles(&set, &names)) {
             return Err(RestoreError::OtherBundles);
         }
-        let session = session(&mut from).and_then(Session::from_raw).ok_or(RestoreError::Damaged)?;
+        let session = session(&mut from, version).and_then(Session::from_raw).ok_or(RestoreError::Damaged)?;
         if !session.opened_as(self.mode, self.command, self.backend) {
             return Err(RestoreError::OtherOpening);
         }
@@ -249,7 +252,7 @@ fn restored(mut d: Driver, mut from: From) -> Option<Driver> {
 
 /// What is owed fits the buffers and the table, the table is the session's, and no more is gathered than came of the open region.
 fn sound(d: &Driver) -> bool {
-    let entry = |place| crate::entry_at(&d.table, place).is_some();
+    let entry = |place| crate::entry_at(&d.table, d.session.width(), place).is_some();
     let owed = match d.owed {
         Owed::Send(from, to) => from <= to && to <= d.out.len(),
         Owed::Image(from, to) => from <= to && to <= d.set.bytes().len(),
@@ -265,4 +268,37 @@ fn sound(d: &Driver) -> bool {
             Region::None => d.from == 0,
             _ => entry(d.place) && d.from as u64 <= d.done(),
         }
+}
+
+#[cfg(test)]
+mod tests {
+    use super::*;
+    use crate::{Backend, Mode};
+
+    /// The same bytes with another number at a place, and the sum of them.
+    fn with(saved: &[u8], at: usize, number: u64) -> Vec<u8> {
+        let mut to = saved[..saved.len() - DIGEST].to_vec();
+        to[at..at + 8].copy_from_slice(&number.to_le_bytes());
+        let sum = digest(&[&to]);
+        to.extend(sum);
+        to
+    }
+
+    #[test]
+    fn forms_and_widths_that_are_none() {
+        let options = Options::new(Backend::Usb, Mode::MemoryDebug);
+        let saved = options.start().unwrap().save();
+        let form = MAGIC.len();
+        for other in [0, 3, u64::MAX] {
+            assert_eq!(options.restore(&with(&saved, form, other)).unwrap_err(), RestoreError::Version(other));
+        }
+        // without a width these bytes are too many
+        assert_eq!(options.restore(&with(&saved, form, WITHOUT_WIDTH)).unwrap_err(), RestoreError::Damaged);
+        let width = form + 8 + DIGEST + 12 * 8;
+        assert_eq!(with(&saved, width, 64), saved);
+        assert_eq!(options.restore(&with(&saved, width, 32)).unwrap().session().width(), Width::Bits32);
+        for other in [0, 33, 1 << 32 | 32, u64::MAX] {
+            assert_eq!(options.restore(&with(&saved, width, other)).unwrap_err(), RestoreError::Damaged);
+        }
+    }
 }

@@ -1,5 +1,5 @@
 //! A session: what the host keeps from step to step.
-use crate::{raw, Answer, Backend, Command, Entry, Mode, Phase, Refusal};
+use crate::{raw, Answer, Backend, Command, Entry, Mode, Phase, Refusal, Width};
 use std::fmt;
 
 /// The least out buffer.
@@ -76,6 +76,15 @@ impl Session {
         }
     }
 
+    /// The width of the memory debug that came; before one came, 64 bits.
+    #[inline]
+    pub fn width(&self) -> Width {
+        match self.0.width {
+            32 => Width::Bits32,
+            _ => Width::Bits64,
+        }
+    }
+
     /// Whether it was opened with these.
     pub(crate) fn opened_as(&self, mode: Mode, command: Option<Command>, backend: Backend) -> bool {
         let opened = Session::open(mode, command, backend).0;
@@ -114,8 +123,9 @@ impl Session {
 
 impl fmt::Debug for Session {
     fn fmt(&self, f: &mut fmt::Formatter<'_>) -> fmt::Result {
-        let raw::Session { reads, count, at, done, len, .. } = self.0;
-        write!(f, "Session({:?}, count {count}, at {at}, {done} of {len} bytes, {reads} memory reads)", self.phase())
+        let raw::Session { width, reads, count, at, done, len, .. } = self.0;
+        let phase = self.phase();
+        write!(f, "Session({phase:?}, {width} bits, count {count}, at {at}, {done} of {len} bytes, {reads} memory reads)")
     }
 }
 

@@ -1,10 +1,7 @@
 //! The memory table: entries, and which of them are dumped.
-use crate::{raw, NameList};
+use crate::{raw, NameList, Width};
 
-/// The bytes of an entry.
-pub const ENTRY: usize = 64;
-
-/// An entry of the memory table: a region.
+/// An entry of the memory table, of either width: a region.
 #[derive(Clone, Copy, Debug, PartialEq, Eq)]
 pub struct Entry {
     /// not 0: dumped where no names are given
@@ -28,8 +25,8 @@ impl Entry {
 }
 
 /// Entry i of a table's bytes.
-pub fn entry_at(table: &[u8], i: usize) -> Option<Entry> {
-    let e = raw::entry_at(table, i);
+pub fn entry_at(table: &[u8], width: Width, i: usize) -> Option<Entry> {
+    let e = raw::entry_at(table, width as u64, i);
     (e.there != 0).then_some(Entry {
         save_pref: e.save_pref,
         base: e.base,
@@ -40,8 +37,8 @@ pub fn entry_at(table: &[u8], i: usize) -> Option<Entry> {
 }
 
 /// The place of the first selected entry at or after `from` among a table's first `entries`.
-pub fn next_selected(table: &[u8], entries: usize, names: &NameList, from: usize) -> Option<usize> {
-    let i = raw::next_selected(table, entries, names.bytes(), from);
+pub fn next_selected(table: &[u8], width: Width, entries: usize, names: &NameList, from: usize) -> Option<usize> {
+    let i = raw::next_selected(table, width as u64, entries, names.bytes(), from);
     (i < entries).then_some(i)
 }
 

@@ -1,7 +1,7 @@
 //! examples/fetch.c, compiled as README.md says, fetches from the simulated device; and again under the sanitizers, with system
 //! calls that fail as they may (tests/c/faults.c). The header's bundles beside the crate's.
 use device::{
-    done_resp, execute_resp, hello, not_run, read_data, reset_resp, serve_until, Device, Memory, Pty, Region, Rng, Turn,
+    done_resp, execute_resp, hello, not_run, read_data, reset_resp, serve_until, Device, Memory, Pty, Region, Rng, Turn, Width,
 };
 use std::collections::BTreeMap;
 use std::fs::{self, File};
@@ -100,6 +100,11 @@ fn example(build: Build) -> Option<&'static Path> {
 
 fn builds() -> Vec<Build> {
     [Build::Plain, Build::Checked].into_iter().filter(|b| example(*b).is_some()).collect()
+}
+
+/// Each of them with a board of each width, which nobody tells it.
+fn boards() -> Vec<(Build, Width)> {
+    Width::with_both(builds()).collect()
 }
 
 // ---- a run
@@ -243,8 +248,8 @@ const NAMES: &[(&str, &str)] = &[
     ("ABCDEFGHIJKLMNOPQRS", "ABCDEFGHIJKLMNOPQRS"),
 ];
 
-/// Regions with names from the list, some more than once, and the name of each one's file.
-fn regions(rng: &mut Rng) -> (Vec<Region>, Vec<String>) {
+/// Regions with names from the list, some more than once, and the name of each one's file. The last one ends with the last address.
+fn regions(width: Width, rng: &mut Rng) -> (Vec<Region>, Vec<String>) {
     let mut used = BTreeMap::new();
     let count = 2 + rng.below(12);
     let one = |i: u64| {
@@ -254,15 +259,16 @@ fn regions(rng: &mut Rng) -> (Vec<Region>, Vec<String>) {
             1 => 512 * rng.below(40),
             _ => rng.below(30_000),
         };
+        let base = if i == count { width.end_less(len.max(1)) } else { i << (width.bits() - 8) | rng.below(100) };
         let copies = used.entry(plain).and_modify(|n| *n += 1).or_insert(1);
         let file = if *copies == 1 { plain.into() } else { format!("{plain}~{copies}") };
-        (Region::new(filename, i << 32 | rng.below(100), len), file)
+        (Region::new(filename, base, len), file)
     };
     (1..=count).map(one).unzip()
 }
 
-fn memory(seed: u64, regions: &[Region]) -> Memory {
-    Memory::new(seed, 0x4000_0000, regions)
+fn memory(width: Width, seed: u64, regions: &[Region]) -> Memory {
+    Memory::of(width, seed, width.half(), regions)
 }
 
 fn content(memory: &Memory, region: &Region) -> Vec<u8> {
@@ -285,11 +291,11 @@ fn held(files: &BTreeMap<String, Vec<u8>>, memory: &Memory, regions: &[Region], 
 
 #[test]
 fn fetches() {
-    for build in builds() {
+    for (build, width) in boards() {
         for seed in 0..40 {
             let mut rng = Rng::new(seed);
-            let (regions, names) = regions(&mut rng);
-            let memory = memory(seed, &regions);
+            let (regions, names) = regions(width, &mut rng);
+            let memory = memory(width, seed, &regions);
             let temporary = Temporary::new();
             let faults = (build == Build::Checked && seed >= 5).then_some(seed);
             let call = Call { usb: seed % 2 == 0, faults, ..Call::new(build) };
@@ -320,11 +326,10 @@ fn fetches() {
 
 #[test]
 fn every_filename() {
-    let regions: Vec<Region> =
-        NAMES.iter().enumerate().map(|(i, (name, _))| Region::new(name, (i as u64) << 32, 100 + i as u64)).collect();
+    let regions: Vec<Region> = NAMES.iter().zip(0..).map(|((name, _), i)| Region::new(name, i << 20, 100 + i)).collect();
     let names: Vec<String> = NAMES.iter().map(|(_, plain)| plain.to_string()).collect();
-    for build in builds() {
-        let memory = memory(1, &regions);
+    for (build, width) in boards() {
+        let memory = memory(width, 1, &regions);
         let temporary = Temporary::new();
         let (said, _) = Call::new(build).run(Device::dump(memory.clone()), 1, u64::MAX, &temporary.dump());
         assert_eq!(said.status, Some(0), "{said:?}");
@@ -336,8 +341,8 @@ fn every_filename() {
 fn selected_by_name() {
     let regions =
         [Region::new("TAKE.BIN", 0, 10), Region::new("OCIMEM.BIN", 100, 20).unpreferred(), Region::new("OTHER.BIN", 200, 30)];
-    let memory = memory(2, &regions);
-    for build in builds() {
+    for (build, width) in boards() {
+        let memory = memory(width, 2, &regions);
         for (names, files) in [(vec!["ocimem", "Take"], vec!["OCIMEM.BIN", "TAKE.BIN"]), (vec![], vec!["OTHER.BIN", "TAKE.BIN"])]
         {
             let temporary = Temporary::new();
@@ -360,9 +365,9 @@ fn selected_by_name() {
 /// Names that are taken, by whole regions, parts and whatever else: nothing that was there changes.
 #[test]
 fn nothing_is_overwritten() {
-    for build in builds() {
+    for (build, width) in boards() {
         let regions = [Region::new("TAKE.BIN", 0, 5000), Region::new("TAKE.BIN", 9000, 6000), Region::new("X", 20_000, 1)];
-        let memory = memory(3, &regions);
+        let memory = memory(width, 3, &regions);
         let temporary = Temporary::new();
         fs::create_dir(temporary.dump()).unwrap();
         let there = [("TAKE.BIN", "before"), ("TAKE.BIN~2.part", "a part"), ("X.part", "")];
@@ -389,11 +394,11 @@ fn side_by_side() {
         return;
     }
     let regions = [Region::new("TAKE.BIN", 0, 3000), Region::new("TAKE.BIN", 9000, 100), Region::new("X", 20_000, 1)];
-    let memory = memory(4, &regions);
+    let memories = Width::BOTH.map(|width| memory(width, 4, &regions));
     let temporary = Temporary::new();
     thread::scope(|scope| {
         for seed in 0..8 {
-            let (memory, folder) = (memory.clone(), temporary.dump());
+            let (memory, folder) = (memories[seed as usize % 2].clone(), temporary.dump());
             scope.spawn(move || {
                 let (said, _) = Call::new(Build::Plain).run(Device::dump(memory), seed, u64::MAX, &folder);
                 assert_eq!(said.status, Some(0), "{said:?}");
@@ -401,7 +406,7 @@ fn side_by_side() {
         }
     });
     let files = temporary.files();
-    let with = |region: &Region| files.values().filter(|bytes| **bytes == content(&memory, region)).count();
+    let with = |region: &Region| files.values().filter(|bytes| **bytes == content(&memories[0], region)).count();
     assert_eq!((files.len(), regions.each_ref().map(with)), (24, [8; 3]), "{:?}", files.keys());
 }
 
@@ -410,13 +415,13 @@ fn side_by_side() {
 /// A device that dies: what is whole is whole, and of the open region its beginning is there, as a part.
 #[test]
 fn the_device_dies() {
-    for build in builds() {
+    for (build, width) in boards() {
         for seed in 0..if build == Build::Plain { 6 } else { 60 } {
             let mut rng = Rng::new(seed);
-            let (regions, names) = regions(&mut rng);
-            let memory = memory(seed, &regions);
-            let bytes: u64 = 72 + 64 * regions.len() as u64 + regions.iter().map(|r| r.len).sum::<u64>();
-            let left = rng.below(bytes);
+            let (regions, names) = regions(width, &mut rng);
+            let memory = memory(width, seed, &regions);
+            let before = 48 + width.packet_len() as u64 + memory.table_len();
+            let left = rng.below(before + regions.iter().map(|r| r.len).sum::<u64>());
             let temporary = Temporary::new();
             let call = Call { usb: seed % 2 == 0, faults: (build == Build::Checked).then_some(seed), ..Call::new(build) };
             let (said, _) = call.run(Device::dump(memory.clone()), seed, left, &temporary.dump());
@@ -431,7 +436,7 @@ fn the_device_dies() {
             let parts = files.keys().find(|f| f.ends_with(".part"));
             // every byte that came is kept
             let kept: usize = files.values().map(Vec::len).sum();
-            assert_eq!(kept as u64, left.saturating_sub(72 + 64 * regions.len() as u64), "{said:?}");
+            assert_eq!(kept as u64, left.saturating_sub(before), "{said:?}");
             if let Some(part) = parts {
                 let len = regions[whole].len;
                 assert!(
@@ -450,14 +455,16 @@ fn a_full_disk() {
         return;
     }
     let regions = [Region::new("SMALL", 0, 2048), Region::new("LARGE", 1 << 20, 20_000), Region::new("LAST", 1 << 21, 10)];
-    let memory = memory(5, &regions);
-    let temporary = Temporary::new();
-    let call = Call { most: Some(8), ..Call::new(Build::Plain) };
-    let (said, _) = call.run(Device::dump(memory.clone()), 1, u64::MAX, &temporary.dump());
-    said.failed("File too large");
-    said.failed("NOT whole: LARGE.part has 4096 of 20000 bytes\n");
-    assert_eq!(held(&temporary.files(), &memory, &regions, &["SMALL", "LARGE", "LAST"].map(String::from)), 1);
-    assert_eq!(temporary.files()["LARGE.part"].len(), 4096);
+    for width in Width::BOTH {
+        let memory = memory(width, 5, &regions);
+        let temporary = Temporary::new();
+        let call = Call { most: Some(8), ..Call::new(Build::Plain) };
+        let (said, _) = call.run(Device::dump(memory.clone()), 1, u64::MAX, &temporary.dump());
+        said.failed("File too large");
+        said.failed("NOT whole: LARGE.part has 4096 of 20000 bytes\n");
+        assert_eq!(held(&temporary.files(), &memory, &regions, &["SMALL", "LARGE", "LAST"].map(String::from)), 1);
+        assert_eq!(temporary.files()["LARGE.part"].len(), 4096);
+    }
 }
 
 /// Each call that can fail fails, and each after it.
@@ -466,7 +473,7 @@ fn calls_that_fail() {
     let Some(_) = example(Build::Checked) else { return };
     let regions = [Region::new("A", 0, 5000), Region::new("B", 1 << 20, 5000), Region::new("C", 1 << 21, 0)];
     let names = ["A", "B", "C"].map(String::from);
-    let memory = memory(6, &regions);
+    let memory = memory(Width::Bits32, 6, &regions);
     // how many such calls a fetch makes: for the new folder, then for each region's file and its name; writes as the bytes come
     for (name, error, says, calls) in [
         ("write", 28, "No space left on device", None),
@@ -521,9 +528,11 @@ fn other_devices() {
             [vec![Turn::Say(hello(2)), Turn::Hear(48)], packets.into_iter().map(Turn::Say).collect()].concat(),
         )
     };
-    let table = |table: Vec<u8>| Device::dump(Memory::with_table(1, 0, table));
-    let wide = Region { filename: *b"12345678901234567890", ..Region::new("", 0, 1) };
-    for build in builds() {
+    let full = Region { filename: *b"12345678901234567890", ..Region::new("", 0, 1) };
+    for (build, width) in boards() {
+        let table = |regions: &[Region]| Device::dump(memory(width, 1, regions));
+        let above =
+            if width == Width::Bits32 { "a region of a 32-bit device ends above 2^32" } else { "a region ends above 2^64" };
         let cases = [
             (say(vec![done_resp(1)]), "it is done"),
             (say(vec![reset_resp()]), "it resets"),
@@ -531,11 +540,12 @@ fn other_devices() {
             (say(vec![execute_resp(1, 1)]), "the device announced a response longer than the reply buffer"),
             (say(vec![read_data(0, 0, 0)]), "the device asked for an image that is not in the set"),
             (say(vec![b"<?xml version".to_vec()]), "length is not from 8 to 4096"),
-            (say(vec![device::mem_debug64(0, 65_537)]), "the device announced a memory table longer than 65,536 bytes"),
-            (table(vec![]), "the device has no region that is asked for"),
-            (table(wide.bytes().to_vec()), "a region's filename has no zero byte"),
-            (table(Region::new([0xff], 0, 1).bytes().to_vec()), "a region's filename is not UTF-8"),
-            (table(Region::new("X", u64::MAX, 2).bytes().to_vec()), "a region ends above 2^64"),
+            (say(vec![width.mem_read(0, 0)]), "the device sent a packet that only a host sends"),
+            (say(vec![width.mem_debug(0, 65_537)]), "the device announced a memory table longer than 65,536 bytes"),
+            (table(&[]), "the device has no region that is asked for"),
+            (table(&[full]), "a region's filename has no zero byte"),
+            (table(&[Region::new([0xff], 0, 1)]), "a region's filename is not UTF-8"),
+            (table(&[Region::new("X", width.end_less(1), 2)]), above),
         ];
         for (device, why) in cases {
             let temporary = Temporary::new();
@@ -597,10 +607,10 @@ fn wrong_calls() {
 
 #[test]
 fn over_a_terminal() {
-    for build in builds() {
+    for (build, width) in boards() {
         for seed in 0..6 {
-            let (regions, names) = regions(&mut Rng::new(seed));
-            let memory = memory(seed, &regions);
+            let (regions, names) = regions(width, &mut Rng::new(seed));
+            let memory = memory(width, seed, &regions);
             let temporary = Temporary::new();
             let Ok((far, near)) = Pty::open() else {
                 return not_run("there are no pseudo-terminals here", "examples/fetch.c over one");
@@ -635,7 +645,7 @@ fn an_inherited_descriptor() {
         return;
     }
     let regions = [Region::new("TAKE.BIN", 0, 5000)];
-    let memory = memory(7, &regions);
+    let memory = memory(Width::Bits32, 7, &regions);
     let temporary = Temporary::new();
     let (near, far) = UnixStream::pair().unwrap();
     let device = Device::dump(memory.clone());
@@ -696,7 +706,7 @@ fn without_standard_descriptors() {
         return;
     }
     let regions = [Region::new("TAKE.BIN", 0, 50_000)];
-    let memory = memory(7, &regions);
+    let memory = memory(Width::Bits64, 7, &regions);
     for (left, code) in [(u64::MAX, 0), (48 + 24 + 64 + 30_000, 1)] {
         let temporary = Temporary::new();
         let (near, far) = UnixStream::pair().unwrap();

@@ -1,6 +1,6 @@
 //! The driver's own buffers against guard pages, and what it allocates: with an allocator that ends each run of bytes at a page that no
 //! one may touch.
-use device::{Device, Division, Memory, Region, Wire};
+use device::{Device, Division, Memory, Region, Width, Wire};
 use std::alloc::{GlobalAlloc, Layout, System};
 use std::cell::Cell;
 use std::ffi::c_void;
@@ -73,8 +73,9 @@ fn images_and_replies() {
 
 #[test]
 fn tables_of_each_length() {
-    for len in [0, 1, 63, 64, 65, 4096, 65_472, 65_535, 65_536] {
-        let memory = Memory::with_table(1, 1 << 40, vec![0; len]);
+    let lens = [0, 1, 51, 52, 53, 63, 64, 65, 4096, 65_472, 65_520, 65_535, 65_536];
+    for (len, width) in Width::with_both(lens) {
+        let memory = Memory::with_table(1, width.half(), vec![0; len]).wide(width);
         let mut wire = Wire::new(Device::dump(memory), Division::Random, len as u64);
         let mut driver = Options::new(Backend::Usb, Mode::MemoryDebug).start().unwrap();
         assert_eq!(driver.run(&mut wire, &mut Count::default(), |_| ()).unwrap(), Outcome::Dumped { reads: 1 });
@@ -84,8 +85,8 @@ fn tables_of_each_length() {
 /// From the first bytes of a region to its last nothing is allocated.
 #[test]
 fn no_allocation_in_a_region() {
-    let fetch = |len: u64, division| {
-        let memory = Memory::new(1, 1 << 40, &[Region::new("A.BIN", 0, len)]);
+    let fetch = |width: Width, len: u64, division| {
+        let memory = Memory::of(width, 1, width.half(), &[Region::new("A.BIN", 0, len)]);
         let mut wire = Wire::new(Device::dump(memory), division, 1);
         let mut driver = Options::new(Backend::Usb, Mode::MemoryDebug).start().unwrap();
         let mut sink = Count::default();
@@ -103,7 +104,9 @@ fn no_allocation_in_a_region() {
         assert_eq!(sink.bytes, len);
         assert!(before > 0);
     };
-    fetch(10_000, Division::Whole);
-    fetch(10_000_000, Division::Whole);
-    fetch(3_000_000, Division::Random);
+    for width in Width::BOTH {
+        fetch(width, 10_000, Division::Whole);
+        fetch(width, 10_000_000, Division::Whole);
+        fetch(width, 3_000_000, Division::Random);
+    }
 }

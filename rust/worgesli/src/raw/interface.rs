@@ -1,7 +1,7 @@
 //! This crate's side of the C interface, held to the Rattle source as tools/interface reads it.
 use super::*;
 use crate::session::answer;
-use crate::{Backend, Command, Mode, Phase};
+use crate::{Backend, Command, Mode, Phase, Width};
 use std::fmt::Debug;
 
 const SOURCE: &str = include_str!("../raw.rs");
@@ -82,10 +82,25 @@ fn functions_are_those_of_the_source() {
     assert_eq!(ours, theirs.collect::<Vec<_>>());
 }
 
+/// The arrays that are lent to a step in place, or to what it wants, are the session's parts, no longer than they are.
+#[test]
+fn parts_of_a_session() {
+    let ends = [0, offset_of!(Session, reads), offset_of!(Session, window), size_of::<Session>()];
+    let lent: Vec<_> = lines("function").into_iter().filter(|f| f[0].ends_with("_in_place")).collect();
+    assert_eq!(lent.len(), 2);
+    for f in lent {
+        for (i, (name, element, size)) in [("head", "u32", 4), ("numbers", "u64", 8), ("window", "u8", 1)].into_iter().enumerate()
+        {
+            let array = format!("[{element};{}]", (ends[i + 1] - ends[i]) / size);
+            assert!([format!("{name}:&mut{array}"), format!("{name}:&{array}")].contains(&f[2 + i]), "{f:?}: {array}");
+        }
+    }
+}
+
 #[test]
 fn number_of_the_interface() {
     assert_eq!(lines("abi"), [[ABI.to_string()]]);
-    assert_eq!([worgesli_abi(), worgesli_abi_1()], [ABI; 2]);
+    assert_eq!([worgesli_abi(), worgesli_abi_2()], [ABI; 2]);
     assert!(SOURCE.contains(&format!("= worgesli_abi_{ABI};")));
 }
 
@@ -111,6 +126,7 @@ fn numbers_are_those_of_the_source() {
     commands.push(("None".into(), NO_COMMAND));
     assert_eq!(numbers("command"), commands);
     assert_eq!(numbers("backend"), [Backend::Serial, Backend::Usb].map(|b| (case(b), b as u32)));
+    assert_eq!(numbers("width"), Width::BOTH.map(|w| (case(w), w as u32)));
     // a session in each phase, all its other numbers 0
     let phase = |n| crate::Session::from_raw(Session { phase: n, ..worgesli_open(0, NO_COMMAND, 0) }).map(|s| s.phase());
     assert_eq!(numbers("phase"), named(phase));
@@ -118,6 +134,9 @@ fn numbers_are_those_of_the_source() {
         let phases = [Phase::Packet, Phase::Response, Phase::Switched, Phase::Table, Phase::Between, Phase::Region, Phase::Ended];
         assert_eq!(phases.iter().find(|p| case(p) == name).map(|p| *p as u32), Some(n));
     }
+    // of 48 bytes that are 0 but for the command, just the kinds are packets
+    let is_kind = |n: &u32| crate::parse_packet(&[&n.to_le_bytes()[..], &[0; 44]].concat()).is_ok();
+    assert_eq!(numbers("kind").into_iter().map(|k| k.1).collect::<Vec<_>>(), (0..100).filter(is_kind).collect::<Vec<_>>());
     let answers = numbers("answer");
     assert_eq!(answers, (0..answers.len() as u32).map(|n| (case(answer(n, 0, 0)), n)).collect::<Vec<_>>());
 }

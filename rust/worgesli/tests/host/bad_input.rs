@@ -1,6 +1,6 @@
 //! Input that no honest caller gives: malformed bundles, bits that are no session, buffers of any length, NULL.
 use crate::guard::{Guarded, Side};
-use device::Rng;
+use device::{Rng, Width};
 use std::ptr::{null, null_mut};
 use worgesli::{raw, Backend, Command, ImageSet, Mode, NameList, Session};
 
@@ -103,7 +103,7 @@ fn malformed_bundles() {
         assert!(images || raw::image_range(&b, 0, 0, 0) == raw::Range { start: 0, len: 0, refused: 1 });
         // selection with any bytes for names comes to an end, at an entry that is there
         let table = Guarded::new(&[b'A'; 200], side);
-        assert!(raw::next_selected(&table, 3, &b, 0) <= 3);
+        assert!([32, 64, 33].into_iter().all(|width| raw::next_selected(&table, width, 3, &b, 0) <= 3));
     }
     assert!(bad[0] > 5000 && bad[1] > 5000, "{bad:?}");
 }
@@ -131,6 +131,7 @@ fn numbers(rng: &mut Rng) -> raw::Session {
         done: 0,
         outstanding: 0,
         due: 0,
+        width: [32, 32, 32, 64, 64, 64, 64, 33][rng.below(8) as usize],
         window: [0; 48],
     };
     if matches!(phase, 1 | 3 | 4 | 5) || rng.chance(20) {
@@ -191,10 +192,10 @@ fn bits_that_are_no_session() {
             0 | 5 | 6 => {}
             1 => assert!(r.first <= 48),
             2 => panic!("an image of an empty set"),
-            3 => assert!(r.first < table.len() as u64 / 64),
+            3 => assert!(r.first < table.len() as u64 / if s.width == 32 { 52 } else { 64 }),
             4 => assert!(r.first == r.taken as u64),
             7 => assert!((1..=4).contains(&r.first) && r.session.phase == 6),
-            8 => assert!((3..=22).contains(&r.first)),
+            8 => assert!((3..=22).contains(&r.first) && (r.first, s.width) != (22, 32) || (r.first, s.width) == (24, 32)),
             a => panic!("answer {a}"),
         }
         if r.answer == 8 && matches!(r.first, 3 | 4 | 18) {
@@ -219,11 +220,14 @@ fn region(rng: &mut Rng) -> raw::Session {
     let mut s = *Session::open(Mode::MemoryDebug, None, Backend::Serial).raw();
     s.backend = rng.below(2) as u32;
     s.phase = 5;
+    s.width = [32, 32, 32, 64, 64, 64, 64, 33][rng.below(8) as usize];
     s.reads = if rng.chance(100) { near(rng, (1 << 63) + 1) } else { 1 + rng.below(9) };
-    s.count = 64 * rng.below(4) as usize + rng.below(2) as usize;
+    s.count = [52, 64][rng.below(2) as usize] * rng.below(4) as usize + rng.below(2) as usize;
     s.at = if rng.chance(800) { 0 } else { rng.below(4) as usize };
     s.len = len;
-    s.base = if rng.chance(300) { near(rng, len.wrapping_neg()) } else { rng.below(1 << 40) };
+    // around the last address that a region of its width may have
+    let end = if s.width == 32 { (1 << 32) - len } else { len.wrapping_neg() };
+    s.base = if rng.chance(300) { near(rng, end) } else { rng.below(1 << 40) };
     s.done = done;
     s.outstanding = [0, 0, rest, rest.min(512), near(rng, rest)][rng.below(5) as usize];
     s.due = [0, 0, 0, 1, 1, 2][rng.below(6) as usize];
@@ -235,7 +239,7 @@ fn region(rng: &mut Rng) -> raw::Session {
 #[test]
 fn regions_in_place() {
     let mut rng = Rng::new(4);
-    let table = device::Region::new("A.BIN", 0, 0).bytes().repeat(4);
+    let table = [0; 256];
     let mut seen = std::collections::BTreeMap::new();
     for i in 0..60_000 {
         let side = if i % 2 == 0 { Side::Behind } else { Side::Before };
@@ -252,7 +256,7 @@ fn regions_in_place() {
         *seen.entry((r.answer, if r.answer == 8 { r.first } else { 0 })).or_insert(0) += 1;
     }
     // go, a memory read, bytes, an empty read, a close, and the refusals that a region knows
-    for what in [(0, 0), (1, 0), (4, 0), (5, 0), (6, 0), (8, 1), (8, 2), (8, 3), (8, 18), (8, 22)] {
+    for what in [(0, 0), (1, 0), (4, 0), (5, 0), (6, 0), (8, 1), (8, 2), (8, 3), (8, 18), (8, 22), (8, 24)] {
         assert!(seen.get(&what).is_some_and(|n| *n > 50), "{what:?}: {seen:?}");
     }
 }
@@ -299,8 +303,8 @@ fn null_with_length_0() {
         assert_eq!(raw::worgesli_check_images(n, 0), 1);
         assert_eq!(raw::worgesli_check_names(n, 0), 2);
         assert_eq!(raw::worgesli_image_range(n, 0, 0, 0, 0), raw::Range { start: 0, len: 0, refused: 1 });
-        assert_eq!(raw::worgesli_entry_at(n, 0, 0).there, 0);
-        assert_eq!(raw::worgesli_next_selected(n, 0, 0, n, 0, 0), 0);
+        assert!([32, 64, 33].into_iter().all(|width| raw::worgesli_entry_at(n, 0, width, 0).there == 0));
+        assert!([32, 64, 33].into_iter().all(|width| raw::worgesli_next_selected(n, 0, width, 0, n, 0, 0) == 0));
         assert!(raw::worgesli_utf8(n, 0));
         assert_eq!(raw::worgesli_parse_packet(n, 0).refused, 9);
         assert_eq!(raw::worgesli_reset(m, 0), 3);
@@ -310,23 +314,85 @@ fn null_with_length_0() {
 /// In each phase: 3 below 48 bytes of out, 18 below the declared length of the table.
 #[test]
 fn short_buffers() {
-    let mut s = Session::open(Mode::MemoryDebug, None, Backend::Usb);
-    let entry = device::Region::new("A.BIN", 4096, 512).bytes();
-    let mut table = [0; 64];
-    let said: [&[u8]; 6] = [&device::mem_debug64(0, 64), &entry, &[], &[], &[7; 512], &[]];
-    for (i, delivery) in said.into_iter().enumerate() {
-        for out in 0..48 {
-            let mut out = Guarded::new(&vec![0; out], Side::Behind);
-            let r = step(*s.raw(), delivery, &EMPTY, &EMPTY, &mut table, &mut [], &mut out);
-            assert_eq!((r.answer, r.first, r.taken, r.session), (8, 3, 0, *s.raw()));
+    for width in Width::BOTH {
+        let mut s = Session::open(Mode::MemoryDebug, None, Backend::Usb);
+        let entry = device::Region::new("A.BIN", 4096, 512).bytes(width);
+        let mut table = vec![0; entry.len()];
+        let said: [&[u8]; 6] = [&width.mem_debug(0, entry.len() as u64), &entry, &[], &[], &[7; 512], &[]];
+        for (i, delivery) in said.into_iter().enumerate() {
+            for out in 0..48 {
+                let mut out = Guarded::new(&vec![0; out], Side::Behind);
+                let r = step(*s.raw(), delivery, &EMPTY, &EMPTY, &mut table, &mut [], &mut out);
+                assert_eq!((r.answer, r.first, r.taken, r.session), (8, 3, 0, *s.raw()));
+            }
+            for short in (0..entry.len()).filter(|_| i > 0) {
+                let mut short = Guarded::new(&table[..short], Side::Behind);
+                let r = step(*s.raw(), delivery, &EMPTY, &EMPTY, &mut short, &mut [], &mut [0; 48]);
+                assert_eq!((r.answer, r.first, r.taken, r.session), (8, 18, 0, *s.raw()));
+            }
+            s.step(delivery, &EMPTY, &EMPTY, &mut table, &mut [], &mut [0; 48]);
         }
-        for short in (0..64).filter(|_| i > 0) {
-            let mut short = Guarded::new(&table[..short], Side::Behind);
-            let r = step(*s.raw(), delivery, &EMPTY, &EMPTY, &mut short, &mut [], &mut [0; 48]);
-            assert_eq!((r.answer, r.first, r.taken, r.session), (8, 18, 0, *s.raw()));
-        }
-        s.step(delivery, &EMPTY, &EMPTY, &mut table, &mut [], &mut [0; 48]);
+        // packet, table, open, memory read, bytes, empty read
+        assert_eq!((s.raw().phase, s.raw().done, s.raw().due, s.reads()), (5, 512, 0, 2));
     }
-    // packet, table, open, memory read, bytes, empty read
-    assert_eq!((s.raw().phase, s.raw().done, s.raw().due, s.reads()), (5, 512, 0, 2));
+}
+
+/// Made-up sessions in a region, at the end of all addresses: where nothing is done, the refusal is the width's own; where something is, it is 18. What a session of
+/// 32 bits is refused for, one of 64 goes on with.
+#[test]
+fn made_up_ends() {
+    let (narrow, wide) = (1u64 << 32, u64::MAX);
+    // width, base, length, done, outstanding, due; the answer and its first value
+    type Row = ((u64, u64, u64, u64, u64, u64), (u32, u64));
+    let rows: [Row; 22] = [
+        ((32, narrow - 1, 1, 0, 0, 0), (1, 16)),
+        ((32, narrow - 1, 2, 0, 0, 0), (8, 24)),
+        ((64, narrow - 1, 2, 0, 0, 0), (1, 24)),
+        ((32, narrow, 0, 0, 0, 0), (6, 0)),
+        ((32, narrow, 1, 0, 0, 0), (8, 24)),
+        ((32, narrow + 1, 0, 0, 0, 0), (8, 24)),
+        ((32, wide, wide, 0, 0, 0), (8, 24)),
+        ((64, wide, 1, 0, 0, 0), (1, 24)),
+        ((64, wide, 2, 0, 0, 0), (8, 22)),
+        // an empty read that is due comes first
+        ((32, narrow, 1, 0, 0, 1), (5, 0)),
+        // something is done or outstanding
+        ((32, narrow - 2, 2, 1, 0, 0), (1, 16)),
+        ((32, narrow - 2, 2, 2, 0, 0), (6, 0)),
+        ((32, narrow - 2, 2, 2, 0, 1), (5, 0)),
+        ((32, narrow - 1, 2, 1, 0, 0), (8, 18)),
+        ((32, narrow - 1, 2, 0, 1, 0), (8, 18)),
+        ((32, narrow - 1, 2, 1, 0, 1), (8, 18)),
+        ((32, narrow - 1, 2, 0, 1, 1), (8, 18)),
+        ((64, narrow - 1, 2, 1, 0, 0), (1, 24)),
+        ((64, narrow - 1, 2, 0, 1, 0), (0, 0)),
+        ((64, wide - 1, 2, 1, 0, 0), (1, 24)),
+        ((64, wide, 2, 1, 0, 0), (8, 18)),
+        ((64, wide, 2, 0, 1, 0), (8, 18)),
+    ];
+    for ((width, base, len, done, outstanding, due), expected) in rows {
+        let open = *Session::open(Mode::MemoryDebug, None, Backend::Usb).raw();
+        let s = raw::Session { phase: 5, reads: 1, count: 64, base, len, done, outstanding, due, width, ..open };
+        let r = step(s, &[], &EMPTY, &EMPTY, &mut [0; 64], &mut [], &mut [0; 48]);
+        assert_eq!((r.answer, r.first), expected, "{s:?}");
+        assert_eq!(r.session.width, width);
+    }
+}
+
+/// The table's length tells a session's entries by its width: where they number n, n is the last entry to go on from, and n - 1 the last to be in.
+#[test]
+fn made_up_entries() {
+    for (count, narrow, wide) in [(0, 0, 0), (51, 0, 0), (52, 1, 0), (63, 1, 0), (64, 1, 1), (104, 2, 1), (65_536, 1260, 1024)] {
+        for (width, entries) in [(32, narrow), (64, wide)] {
+            let open = *Session::open(Mode::MemoryDebug, None, Backend::Usb).raw();
+            let answer = |phase, at| {
+                let s = raw::Session { phase, reads: 1, count, at, width, ..open };
+                let r = step(s, &[], &EMPTY, &EMPTY, &mut vec![0; count], &mut [], &mut [0; 48]);
+                (r.answer, r.first)
+            };
+            assert_eq!((answer(4, entries), answer(4, entries + 1)), ((7, 3), (8, 18)), "{width}: {count}");
+            assert_eq!(answer(5, entries), (8, 18), "{width}: {count}");
+            assert!(entries == 0 || answer(5, entries - 1) == (6, entries as u64 - 1), "{width}: {count}");
+        }
+    }
 }

@@ -1,6 +1,6 @@
 //! The channels of a box: a tty, and USB bulk packets.
-use crate::world::{world, Record, World};
-use device::{Bulk, Device, Division, Memory, Pty, Region, Wire};
+use crate::world::{worlds, Record, World};
+use device::{Bulk, Device, Division, Memory, Pty, Region, Width, Wire};
 use std::io::{self, ErrorKind, Read, Write};
 use std::time::{Duration, Instant};
 use worgesli::{sahara_run, Backend, Count, Error, Mode, Options, Outcome, Packets, Phase, Serial};
@@ -9,18 +9,17 @@ use worgesli::{sahara_run, Backend, Count, Error, Mode, Options, Outcome, Packet
 #[test]
 fn packets() {
     let mut empties = 0;
-    for seed in 0..1500 {
-        let mut w = world(seed);
+    for (seed, mut w) in worlds(0..1500) {
         w.backend = if seed % 5 == 0 { Backend::Serial } else { Backend::Usb };
         let size = [64, 512, 1024][seed as usize % 3];
         let bulk = Bulk::new(Device::dump(w.memory.clone()), size, seed % 4 != 0, seed);
         let mut channel = Packets::new(bulk, size).unwrap();
         let mut sink = Record::default();
         let end = sahara_run(&mut channel, &w.options(), &mut sink, |_| ());
-        assert_eq!(end.unwrap(), Outcome::Dumped { reads: w.memory_reads() }, "seed {seed}");
-        assert_eq!(sink.0, w.kept(), "seed {seed}");
+        assert_eq!(end.unwrap(), Outcome::Dumped { reads: w.memory_reads() }, "seed {seed}, {w:?}");
+        assert_eq!(sink.0, w.kept(), "seed {seed}, {w:?}");
         let (bulk, unread) = channel.into_parts();
-        assert_eq!((bulk.device.wrong(), bulk.overflows, unread.len()), (None, 0, 0), "seed {seed}");
+        assert_eq!((bulk.device.wrong(), bulk.overflows, unread.len()), (None, 0, 0), "seed {seed}, {w:?}");
         empties += bulk.empties;
     }
     assert!(empties > 1000, "{empties}");
@@ -29,13 +28,18 @@ fn packets() {
 /// The empty packet behind a table of 512 bytes is passed over, and those behind chunks are taken by the empty reads.
 #[test]
 fn empty_packet_behind_a_table() {
-    let regions: Vec<Region> = (0..8).map(|i| Region::new(format!("R{i}.BIN"), i << 20, 512 * i)).collect();
-    let w = World { memory: Memory::new(3, 1 << 40, &regions), regions, names: vec![], backend: Backend::Usb };
-    let mut channel = Packets::new(Bulk::new(Device::dump(w.memory.clone()), 512, true, 0), 512).unwrap();
-    let mut sink = Record::default();
-    sahara_run(&mut channel, &w.options(), &mut sink, |_| ()).unwrap();
-    assert_eq!(sink.0, w.kept());
-    assert_eq!(channel.into_parts().0.empties, 1 + w.empty_reads());
+    for width in Width::BOTH {
+        let regions: Vec<Region> = (0..8).map(|i| Region::new(format!("R{i}.BIN"), i << 20, 512 * i)).collect();
+        let mut w = World::new(width, Backend::Usb, &regions);
+        let mut table = w.memory.table().to_vec();
+        table.resize(512, 0);
+        w.memory = Memory::with_table(3, width.half(), table).wide(width);
+        let mut channel = Packets::new(Bulk::new(Device::dump(w.memory.clone()), 512, true, 0), 512).unwrap();
+        let mut sink = Record::default();
+        sahara_run(&mut channel, &w.options(), &mut sink, |_| ()).unwrap();
+        assert_eq!(sink.0, w.kept());
+        assert_eq!(channel.into_parts().0.empties, 1 + w.empty_reads());
+    }
 }
 
 /// An endpoint that gives nothing but empty packets is not asked for ever; sizes that no endpoint has are refused.
@@ -70,16 +74,15 @@ fn only_empty_packets() {
     assert_eq!(channel.unread().len(), 40);
 }
 
-fn pty_world(len: u64) -> World {
-    let regions = vec![Region::new("A.BIN", 5, len), Region::new("B.BIN", 1 << 33, 9000)];
-    World { memory: Memory::new(9, 1 << 40, &regions), regions, names: vec![], backend: Backend::Serial }
+fn pty_world(width: Width, len: u64) -> World {
+    World::new(width, Backend::Serial, &[Region::new("A.BIN", 5, len), Region::new("B.BIN", width.end_less(9000), 9000)])
 }
 
 /// A tty as a system leaves it, cooked and echoing, is set raw: every byte goes through as it is, both ways.
 #[test]
 fn serial() {
-    for seed in 0..6 {
-        let w = pty_world(50_000 + seed);
+    for (seed, width) in Width::with_both(0..6) {
+        let w = pty_world(width, 50_000 + seed);
         let (pty, near) = Pty::open().unwrap();
         assert!(!pty.raw());
         let mut channel = Serial::open(pty.path(), 115_200, Duration::from_secs(20)).unwrap();
@@ -93,7 +96,7 @@ fn serial() {
         assert_eq!(channel.read(&mut []).unwrap(), 0);
         drop(channel);
         let (device, _) = far.join().unwrap();
-        assert_eq!((sink.0 == w.kept(), device.wrong(), device.queued()), (true, None, 0), "seed {seed}");
+        assert_eq!((sink.0 == w.kept(), device.wrong(), device.queued()), (true, None, 0), "seed {seed}, {w:?}");
     }
 }
 
@@ -143,27 +146,29 @@ fn reads_of_no_bytes() {
             self.0.flush()
         }
     }
-    let new = |silent| {
-        let memory = Memory::new(1, 1 << 40, &[Region::new("A.BIN", 0, 9000)]);
-        Vtime(Wire::new(Device::dump(memory), Division::AtMost(4096), 1), silent, silent)
-    };
-    let options = Options::new(Backend::Serial, Mode::MemoryDebug).timeouts(3);
-    for silent in 0..=3 {
-        let mut sink = Count::default();
-        assert_eq!(sahara_run(&mut new(silent), &options, &mut sink, |_| ()).unwrap(), Outcome::Dumped { reads: 4 });
-        assert_eq!(sink.bytes, 9000);
-    }
-    // one more than is borne: the short form closes the session; a run stays as it is, and goes on
-    assert_eq!(sahara_run(&mut new(4), &options, &mut Count::default(), |_| ()).unwrap_err().number(), Some(23));
-    let (mut channel, mut run, mut sink) = (new(4), options.start().unwrap(), Count::default());
-    let mut stops = 0;
-    let end = loop {
-        match run.run(&mut channel, &mut sink, |_| ()) {
-            Err(Error::NoBytes) => stops += 1,
-            end => break end.unwrap(),
+    for width in Width::BOTH {
+        let new = |silent| {
+            let memory = Memory::of(width, 1, width.half(), &[Region::new("A.BIN", 0, 9000)]);
+            Vtime(Wire::new(Device::dump(memory), Division::AtMost(4096), 1), silent, silent)
+        };
+        let options = Options::new(Backend::Serial, Mode::MemoryDebug).timeouts(3);
+        for silent in 0..=3 {
+            let mut sink = Count::default();
+            assert_eq!(sahara_run(&mut new(silent), &options, &mut sink, |_| ()).unwrap(), Outcome::Dumped { reads: 4 });
+            assert_eq!(sink.bytes, 9000);
         }
-        assert_ne!(run.session().phase(), Phase::Ended);
-    };
-    assert_eq!((end, sink.bytes), (Outcome::Dumped { reads: 4 }, 9000));
-    assert!(stops > 3);
+        // one more than is borne: the short form closes the session; a run stays as it is, and goes on
+        assert_eq!(sahara_run(&mut new(4), &options, &mut Count::default(), |_| ()).unwrap_err().number(), Some(23));
+        let (mut channel, mut run, mut sink) = (new(4), options.start().unwrap(), Count::default());
+        let mut stops = 0;
+        let end = loop {
+            match run.run(&mut channel, &mut sink, |_| ()) {
+                Err(Error::NoBytes) => stops += 1,
+                end => break end.unwrap(),
+            }
+            assert_ne!(run.session().phase(), Phase::Ended);
+        };
+        assert_eq!((end, sink.bytes), (Outcome::Dumped { reads: 4 }, 9000));
+        assert!(stops > 3);
+    }
 }

@@ -1,6 +1,6 @@
 //! Everything that can go wrong, at random and together: channels that fail, time out, give nothing or panic; sinks that fail, take a part, lose regions or
 //! panic; callbacks that panic; runs that are saved and go on from their bytes.
-use crate::world::{world, Record};
+use crate::world::{worlds, Record};
 use device::{Device, Division, Faults, Rng, Wire};
 use std::cell::RefCell;
 use std::io::{self, ErrorKind, Read, Write};
@@ -91,8 +91,7 @@ impl Sink for Keeper<'_> {
 #[test]
 fn everything_at_once() {
     let (mut stops, mut panics) = (0, 0);
-    for seed in 0..4000 {
-        let w = world(seed);
+    for (seed, w) in worlds(0..4000) {
         let dice = Dice(RefCell::new(Rng::new(seed)));
         let wire = Wire::new(Device::dump(w.memory.clone()), Division::Random, seed);
         let faults = Faults { short_writes: seed % 2 == 0, buffered: seed % 3 == 0, ..Faults::default() };
@@ -108,7 +107,7 @@ fn everything_at_once() {
             match ended {
                 Ok(Ok(Some(end))) => break end,
                 Ok(Ok(None)) => {}
-                Ok(Err(Error::Refused(why))) => panic!("seed {seed}: {why}"),
+                Ok(Err(Error::Refused(why))) => panic!("seed {seed}, {w:?}: {why}"),
                 Ok(Err(_)) => stops += 1,
                 Err(_) => panics += 1,
             }
@@ -116,10 +115,10 @@ fn everything_at_once() {
                 run = w.options().timeouts(1).restore(&run.save()).unwrap();
             }
         };
-        let Outcome::Dumped { reads } = end else { panic!("seed {seed}: {end:?}") };
-        assert_eq!(sink.0 .0, w.kept(), "seed {seed}");
+        let Outcome::Dumped { reads } = end else { panic!("seed {seed}, {w:?}: {end:?}") };
+        assert_eq!(sink.0 .0, w.kept(), "seed {seed}, {w:?}");
         let device = &channel.0.device;
-        assert_eq!((device.wrong(), device.queued(), device.reads()), (None, 0, reads), "seed {seed}");
+        assert_eq!((device.wrong(), device.queued(), device.reads()), (None, 0, reads), "seed {seed}, {w:?}");
     }
     assert!(stops > 10_000 && panics > 5_000, "{stops} {panics}");
 }

@@ -1,7 +1,7 @@
 //! The driver against channels and sinks that fail.
 use crate::saved::Gathering;
-use crate::world::{world, Kept, Record, World};
-use device::{Device, Division, Faults, Memory, Region, Turn, Wire};
+use crate::world::{worlds, Kept, Record, World};
+use device::{Device, Division, Faults, Memory, Region, Turn, Width, Wire};
 use std::io::{self, ErrorKind, Read, Write};
 use worgesli::{
     sahara_run, Answer, Backend, Command, Count, Driver, Entry, Error, Mode, Options, Outcome, Phase, Session, Sink, Unkept,
@@ -36,8 +36,7 @@ fn run_on(driver: &mut Driver, wire: &mut Wire, sink: &mut Record) -> (Outcome, 
 #[test]
 fn time_outs_lose_nothing() {
     let mut times = 0;
-    for seed in 0..2000 {
-        let w = world(seed);
+    for (seed, w) in worlds(0..2000) {
         let faults = Faults {
             interrupted: 200,
             timed_out: 100,
@@ -49,10 +48,10 @@ fn time_outs_lose_nothing() {
         let mut wire = wire(&w, seed, faults);
         let mut sink = Record::default();
         let (outcome, timed_out) = run_on(&mut driver(&w), &mut wire, &mut sink);
-        assert_eq!(outcome, Outcome::Dumped { reads: w.memory_reads() }, "seed {seed}");
-        assert_eq!(sink.0, w.kept(), "seed {seed}");
-        assert_eq!(wire.device.wrong(), None, "seed {seed}");
-        assert_eq!((wire.device.reads(), wire.empty_reads), (w.memory_reads(), w.empty_reads()), "seed {seed}");
+        assert_eq!(outcome, Outcome::Dumped { reads: w.memory_reads() }, "seed {seed}, {w:?}");
+        assert_eq!(sink.0, w.kept(), "seed {seed}, {w:?}");
+        assert_eq!(wire.device.wrong(), None, "seed {seed}, {w:?}");
+        assert_eq!((wire.device.reads(), wire.empty_reads), (w.memory_reads(), w.empty_reads()), "seed {seed}, {w:?}");
         times += timed_out;
     }
     assert!(times > 2000, "{times}");
@@ -110,11 +109,11 @@ fn time_outs_in_a_row() {
             self.0.flush()
         }
     }
-    for (borne, good) in [(0, false), (2, false), (3, true), (4, true)] {
-        let regions = [Region::new("A.BIN", 0, 9000)];
-        let mut channel = Silent(Wire::new(Device::dump(Memory::new(1, 1 << 40, &regions)), Division::AtMost(1000), 1), 3);
+    for ((borne, good), width) in Width::with_both([(0, false), (2, false), (3, true), (4, true)]) {
+        let w = World::new(width, Backend::Usb, &[Region::new("A.BIN", 0, 9000)]);
+        let mut channel = Silent(Wire::new(Device::dump(w.memory.clone()), Division::AtMost(1000), 1), 3);
         let mut sink = Count::default();
-        let end = sahara_run(&mut channel, &dump(Backend::Usb).timeouts(borne), &mut sink, |_| ());
+        let end = sahara_run(&mut channel, &w.options().timeouts(borne), &mut sink, |_| ());
         match end {
             Ok(end) => assert_eq!((end, sink.bytes, good), (Outcome::Dumped { reads: 4 }, 9000, true)),
             Err(e) => assert!(matches!(e, Error::TimedOut(_)) && !good, "{e}"),
@@ -126,11 +125,15 @@ fn time_outs_in_a_row() {
 /// beginning of what was due.
 #[test]
 fn gone_after_each_byte() {
-    let regions = [Region::new("A.BIN", 77, 600), Region::new("B.BIN", 9, 0), Region::new("C.BIN", 1 << 63, 513)];
-    let memory = Memory::new(5, 1 << 40, &regions);
-    let total = 48 + 24 + 192 + 600 + 513;
-    for backend in [Backend::Serial, Backend::Usb] {
-        let w = World { memory: memory.clone(), regions: regions.to_vec(), names: vec![], backend };
+    for (backend, width) in Width::with_both([Backend::Serial, Backend::Usb]) {
+        let high = width.end_less(513);
+        let w = World::new(
+            width,
+            backend,
+            &[Region::new("A.BIN", 77, 600), Region::new("B.BIN", 9, 0), Region::new("C.BIN", high, 513)],
+        );
+        let before = w.opening() + w.memory.table_len();
+        let total = before + 600 + 513;
         for end in 0..=total {
             let mut wire = wire(&w, end, Faults { ends_after: Some(end), ..Faults::default() });
             let mut sink = Record::default();
@@ -147,7 +150,7 @@ fn gone_after_each_byte() {
             assert_eq!(driver.close(&mut sink).unwrap().number(), 23);
             assert_eq!(driver.close(&mut sink).unwrap().number(), 4);
             assert_eq!(driver.run(&mut wire, &mut sink, |_| ()).unwrap_err().number(), Some(4));
-            beginning(&sink.0, &w.kept(), end.saturating_sub(48 + 24 + 192));
+            beginning(&sink.0, &w.kept(), end.saturating_sub(before));
         }
     }
 }
@@ -155,20 +158,21 @@ fn gone_after_each_byte() {
 /// What was gathered is the sink's when a call ends, whatever ended it: nobody must come back for it.
 #[test]
 fn gathered_bytes_are_handed_over() {
-    let regions = [Region::new("A.BIN", 77, 9000)];
-    let w = World { memory: Memory::new(5, 1 << 40, &regions), regions: regions.to_vec(), names: vec![], backend: Backend::Usb };
-    let before = 48 + 24 + 64;
-    for end in before..before + 9000 {
-        let faults = match end % 3 {
-            0 => Faults { ends_after: Some(end), ..Faults::default() },
-            1 => Faults { fails_after: Some((end, ErrorKind::BrokenPipe)), ..Faults::default() },
-            _ => Faults { fails_after: Some((end, ErrorKind::TimedOut)), ..Faults::default() },
-        };
-        let mut wire = wire(&w, end, faults);
-        let mut sink = Gathering(Record::default(), 65_536);
-        let mut run = driver(&w);
-        assert!(run.run(&mut wire, &mut sink, |_| ()).is_err());
-        beginning(&sink.0 .0, &w.kept(), end - before);
+    for width in Width::BOTH {
+        let w = World::new(width, Backend::Usb, &[Region::new("A.BIN", 77, 9000)]);
+        let before = w.opening() + w.memory.table_len();
+        for end in before..before + 9000 {
+            let faults = match end % 3 {
+                0 => Faults { ends_after: Some(end), ..Faults::default() },
+                1 => Faults { fails_after: Some((end, ErrorKind::BrokenPipe)), ..Faults::default() },
+                _ => Faults { fails_after: Some((end, ErrorKind::TimedOut)), ..Faults::default() },
+            };
+            let mut wire = wire(&w, end, faults);
+            let mut sink = Gathering(Record::default(), 65_536);
+            let mut run = driver(&w);
+            assert!(run.run(&mut wire, &mut sink, |_| ()).is_err());
+            beginning(&sink.0 .0, &w.kept(), end - before);
+        }
     }
     // and a whole fetch is handed over in few calls
     struct Calls(u64, u64);
@@ -187,11 +191,13 @@ fn gathered_bytes_are_handed_over() {
             65_536
         }
     }
-    let memory = Memory::new(1, 1 << 40, &[Region::new("A", 0, 1 << 20)]);
-    let mut wire = Wire::new(Device::dump(memory), Division::AtMost(512), 1);
-    let mut sink = Calls(0, 0);
-    sahara_run(&mut wire, &dump(Backend::Usb), &mut sink, |_| ()).unwrap();
-    assert_eq!((sink.0, sink.1), (16, 1 << 20));
+    for width in Width::BOTH {
+        let w = World::new(width, Backend::Usb, &[Region::new("A", 0, 1 << 20)]);
+        let mut wire = Wire::new(Device::dump(w.memory.clone()), Division::AtMost(512), 1);
+        let mut sink = Calls(0, 0);
+        sahara_run(&mut wire, &w.options(), &mut sink, |_| ()).unwrap();
+        assert_eq!((sink.0, sink.1), (16, 1 << 20));
+    }
 }
 
 /// Who gives up behind a region's last byte has that region whole, and nothing is sent any more.
@@ -212,21 +218,22 @@ fn given_up() {
             self.0.close(place)
         }
     }
-    let regions = [Region::new("A.BIN", 77, 9000), Region::new("B.BIN", 5, 9)];
-    let w = World { memory: Memory::new(5, 1 << 40, &regions), regions: regions.to_vec(), names: vec![], backend: Backend::Usb };
-    let mut wire = wire(&w, 1, Faults::default());
-    let (mut run, mut sink) = (driver(&w), Shy(Record::default(), true));
-    assert!(matches!(run.run(&mut wire, &mut sink, |_| ()), Err(Error::Sink(_))));
-    assert_eq!(run.close(&mut sink).unwrap().number(), 23);
-    assert_eq!(sink.0 .0, w.kept()[..1]);
-    // a packet that is owed is not sent by a run that is closed
-    let mut silent = wire_that_takes_nothing(&w);
-    let mut run = driver(&w);
-    assert!(matches!(run.run(&mut silent, &mut sink, |_| ()), Err(Error::TimedOut(_))));
-    assert_eq!(run.close(&mut sink).unwrap().number(), 23);
-    silent.faults = Faults::default();
-    assert_eq!(run.run(&mut silent, &mut sink, |_| ()).unwrap_err().number(), Some(4));
-    assert_eq!(silent.device.heard(), []);
+    for width in Width::BOTH {
+        let w = World::new(width, Backend::Usb, &[Region::new("A.BIN", 77, 9000), Region::new("B.BIN", 5, 9)]);
+        let mut wire = wire(&w, 1, Faults::default());
+        let (mut run, mut sink) = (driver(&w), Shy(Record::default(), true));
+        assert!(matches!(run.run(&mut wire, &mut sink, |_| ()), Err(Error::Sink(_))));
+        assert_eq!(run.close(&mut sink).unwrap().number(), 23);
+        assert_eq!(sink.0 .0, w.kept()[..1]);
+        // a packet that is owed is not sent by a run that is closed
+        let mut silent = wire_that_takes_nothing(&w);
+        let mut run = driver(&w);
+        assert!(matches!(run.run(&mut silent, &mut sink, |_| ()), Err(Error::TimedOut(_))));
+        assert_eq!(run.close(&mut sink).unwrap().number(), 23);
+        silent.faults = Faults::default();
+        assert_eq!(run.run(&mut silent, &mut sink, |_| ()).unwrap_err().number(), Some(4));
+        assert_eq!(silent.device.heard(), []);
+    }
 }
 
 /// The device's hello comes, and every write times out.
@@ -266,8 +273,7 @@ fn beginning(came: &[Kept], due: &[Kept], bytes: u64) {
 /// An error of the channel ends the call and not the session: with the fault gone, the run goes on.
 #[test]
 fn errors_of_the_channel() {
-    for seed in 0..500 {
-        let w = world(seed);
+    for (seed, w) in worlds(0..500) {
         let kind = [ErrorKind::ConnectionReset, ErrorKind::BrokenPipe, ErrorKind::Other][seed as usize % 3];
         let mut wire = wire(&w, seed, Faults { fails_after: Some((seed % 300, kind)), ..Faults::default() });
         let mut sink = Record::default();
@@ -281,7 +287,7 @@ fn errors_of_the_channel() {
             wire.faults = Faults::default();
             assert_eq!(driver.run(&mut wire, &mut sink, |_| ()).unwrap(), Outcome::Dumped { reads: w.memory_reads() });
         }
-        assert_eq!(sink.0, w.kept(), "seed {seed}");
+        assert_eq!(sink.0, w.kept(), "seed {seed}, {w:?}");
     }
 }
 
@@ -314,8 +320,7 @@ fn errors_of_the_sink() {
         }
     }
     let mut failed = 0;
-    for seed in 0..1000 {
-        let w = world(seed);
+    for (seed, w) in worlds(0..1000) {
         let mut wire = wire(&w, seed, Faults::default());
         let mut sink = Poor(Record::default(), device::Rng::new(seed));
         let mut driver = driver(&w);
@@ -327,7 +332,7 @@ fn errors_of_the_sink() {
             failed += 1;
         };
         assert_eq!(outcome, Outcome::Dumped { reads: w.memory_reads() });
-        assert_eq!(sink.0 .0, w.kept(), "seed {seed}");
+        assert_eq!(sink.0 .0, w.kept(), "seed {seed}, {w:?}");
         assert_eq!(wire.device.wrong(), None);
     }
     assert!(failed > 1000, "{failed}");
@@ -426,11 +431,12 @@ fn empty_reads_that_fail() {
             self.0.flush()
         }
     }
-    for kind in [ErrorKind::TimedOut, ErrorKind::WouldBlock, ErrorKind::BrokenPipe, ErrorKind::InvalidInput, ErrorKind::Other] {
-        let memory = Memory::new(1, 1 << 40, &[Region::new("A", 0, 8192)]);
-        let mut channel = NoEmptyPackets(Wire::new(Device::dump(memory), Division::Random, 1), kind, 0);
+    let kinds = [ErrorKind::TimedOut, ErrorKind::WouldBlock, ErrorKind::BrokenPipe, ErrorKind::InvalidInput, ErrorKind::Other];
+    for (kind, width) in Width::with_both(kinds) {
+        let w = World::new(width, Backend::Usb, &[Region::new("A", 0, 8192)]);
+        let mut channel = NoEmptyPackets(Wire::new(Device::dump(w.memory.clone()), Division::Random, 1), kind, 0);
         let mut sink = Count::default();
-        assert_eq!(sahara_run(&mut channel, &dump(Backend::Usb), &mut sink, |_| ()).unwrap(), Outcome::Dumped { reads: 3 });
+        assert_eq!(sahara_run(&mut channel, &w.options(), &mut sink, |_| ()).unwrap(), Outcome::Dumped { reads: 3 });
         assert_eq!((sink.bytes, channel.2), (8192, 2));
     }
 }
@@ -460,14 +466,19 @@ fn refusals_of_a_packet() {
     let image = [Some(vec![1; 10])];
     let two = [Some(vec![1; 10]), None];
     type Images<'a> = &'a [Option<Vec<u8>>];
-    let cases: [(u8, Vec<u8>, Images); 29] = [
+    let cases: [(u8, Vec<u8>, Images); 40] = [
         (5, packet(1, &[])[..4].iter().copied().chain([7, 0, 0, 0]).collect(), &image),
         (5, packet(1, &[])[..4].iter().copied().chain(4097u32.to_le_bytes()).collect(), &image),
         (6, packet(0x15, &[]), &image),
         (6, packet(0, &[]), &image),
         (7, packet(0x6d78_3f3c, &[]), &image),
-        (8, packet(9, &[1, 2]), &image),
+        (8, packet(7, &[]), &image),
+        (8, packet(0x0c, &[0]), &image),
         (9, packet(1, &[2, 1]), &image),
+        (9, packet(9, &[]), &image),
+        (9, packet(9, &[0]), &image),
+        (9, framed(9, 15, &[0; 7]), &image),
+        (9, framed(0x0a, 15, &[0; 7]), &image),
         (9, hello(4), &image),
         (9, packet(1, &[2, 1, 4096, 4, 0, 0, 0, 0, 0, 0, 0]), &image),
         (10, packet(2, &[2, 1, 0, 1, 0, 0, 0, 0, 0, 0]), &image),
@@ -475,9 +486,13 @@ fn refusals_of_a_packet() {
         (10, packet(5, &[]), &image),
         (10, packet(0x0f, &[1]), &image),
         (10, packet64(0x11, &[1, 2]), &image),
+        (10, packet(0x0a, &[1, 2]), &image),
+        (10, framed(0x0a, 17, &[0; 9]), &image),
         (11, packet(1, &[2, 1, 4096, 0, 0, 0, 0, 0, 0, 0, 0]), &image),
         (11, packet(1, &[2, 1, 4096, 1, 0, 0, 0, 0, 0, 0, 0]), &image),
         (11, packet(8, &[0]), &image),
+        (11, framed(9, 17, &[0xff; 9]), &image),
+        (11, packet64(9, &[0, 0]), &image),
         (12, read_data(0, 0, 1), NO_IMAGES),
         (12, read_data(1, 0, 1), &two),
         (12, read_data(2, 0, 1), &two),
@@ -489,6 +504,8 @@ fn refusals_of_a_packet() {
         (16, execute_resp(1, 65_537), &image),
         (17, mem_debug64(0, 65_537), &image),
         (17, mem_debug64(0, u64::MAX), &image),
+        (17, packet(9, &[0, 65_537]), &image),
+        (17, packet(9, &[0, u32::MAX]), &image),
         (23, hello(2)[..47].to_vec(), &image),
     ];
     for (number, said, images) in cases {
@@ -499,25 +516,31 @@ fn refusals_of_a_packet() {
 /// The refusals of a region: by its filename and its end.
 #[test]
 fn refusals_of_a_region() {
-    let named = |name: &[u8], base, len| Region::new(name, base, len);
-    let cases = [
-        (19, named(b"ABCDEFGHIJKLMNOPQRST", 0, 1)),
-        (20, named(b"A\xffB", 0, 1)),
-        (21, named(b"A\0\xff", 0, 1)),
-        (22, named(b"A", u64::MAX, 2)),
-        (22, named(b"A", 2, u64::MAX)),
-    ];
-    for (number, region) in cases {
-        for seed in 0..20 {
-            // one good region before it
-            let good = Region::new("GOOD.BIN", 3, 5000);
-            let memory = Memory::new(seed, 1 << 40, &[good, region]);
-            let mut wire = Wire::new(Device::dump(memory.clone()), Division::Random, seed);
-            let mut sink = Record::default();
-            let end = sahara_run(&mut wire, &dump(Backend::Usb), &mut sink, |_| ());
-            assert_eq!(end.unwrap_err().number(), Some(number));
-            assert_eq!(sink.0[0].bytes, memory.bytes(3, 5000));
-            assert_eq!((sink.0.len(), wire.device.reads()), (if number < 21 { 1 } else { 2 }, 3));
+    for width in Width::BOTH {
+        let (above, most) = if width == Width::Bits32 { (24, u32::MAX.into()) } else { (22, u64::MAX) };
+        let cases: [(u8, &[u8], u64, u64); 8] = [
+            (19, b"ABCDEFGHIJKLMNOPQRST", 0, 1),
+            (20, b"A\xffB", 0, 1),
+            (21, b"A\0\xff", 0, 1),
+            (21, b"A\0\xff", most, 2),
+            (above, b"A", most, 2),
+            (above, b"A", 2, most),
+            (above, b"A", width.end_less(5000), 5001),
+            (above, b"A", most, most),
+        ];
+        for (number, name, base, len) in cases {
+            for seed in 0..20 {
+                // one good region before it
+                let w = World::new(width, Backend::Usb, &[Region::new("GOOD.BIN", 3, 5000), Region::new(name, base, len)]);
+                let mut wire = wire(&w, seed, Faults::default());
+                let mut sink = Record::default();
+                let end = sahara_run(&mut wire, &w.options(), &mut sink, |_| ());
+                assert_eq!(end.unwrap_err().number(), Some(number), "{w:?}");
+                assert_eq!((&sink.0[0].bytes, sink.0[0].closed), (&w.memory.bytes(3, 5000), true));
+                // of one that was opened nothing came
+                assert!(sink.0[1..].iter().all(|r| r.bytes.is_empty() && !r.closed));
+                assert_eq!((sink.0.len(), wire.device.reads()), (if number < 21 { 1 } else { 2 }, 3));
+            }
         }
     }
 }

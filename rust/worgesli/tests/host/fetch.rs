@@ -1,6 +1,6 @@
 //! The driver against the device, over divisions at random.
-use crate::world::{world, Record, World};
-use device::{Device, Division, Memory, Region, Rng, Wire};
+use crate::world::{host_width, worlds, Record, World};
+use device::{Device, Division, Memory, Region, Rng, Width, Wire};
 use worgesli::{sahara_run, Backend, Command, Count, Mode, Options, Outcome, Progress};
 
 fn fetch(w: &World, wire: &mut Wire) -> Record {
@@ -13,8 +13,7 @@ fn fetch(w: &World, wire: &mut Wire) -> Record {
 /// Each region as the memory holds it, in the table's order, whatever the division.
 #[test]
 fn every_division_gives_the_memory() {
-    for seed in 0..4000 {
-        let w = world(seed);
+    for (seed, w) in worlds(0..4000) {
         let division = match seed % 8 {
             0 => Division::Whole,
             1 => Division::AtMost(1),
@@ -23,25 +22,24 @@ fn every_division_gives_the_memory() {
         };
         let mut wire = Wire::new(Device::dump(w.memory.clone()), division, seed);
         let sink = fetch(&w, &mut wire);
-        assert_eq!(sink.0, w.kept(), "seed {seed}");
-        assert_eq!(wire.device.wrong(), None, "seed {seed}");
-        assert_eq!(wire.device.reads(), w.memory_reads(), "seed {seed}");
-        assert_eq!(wire.empty_reads, w.empty_reads(), "seed {seed}");
-        assert_eq!((wire.device.queued(), wire.unflushed), (0, 0), "seed {seed}");
+        assert_eq!(sink.0, w.kept(), "seed {seed}, {w:?}");
+        assert_eq!(wire.device.wrong(), None, "seed {seed}, {w:?}");
+        assert_eq!(wire.device.reads(), w.memory_reads(), "seed {seed}, {w:?}");
+        assert_eq!(wire.empty_reads, w.empty_reads(), "seed {seed}, {w:?}");
+        assert_eq!((wire.device.queued(), wire.unflushed), (0, 0), "seed {seed}, {w:?}");
     }
 }
 
 /// A board that says hello with mode 1, as some do after a warm restart, is fetched from like any other; by a session of mode 1 too.
 #[test]
 fn warm_restart() {
-    for seed in 0..400 {
-        let w = world(seed);
+    for (seed, w) in worlds(0..400) {
         for mode in [Mode::MemoryDebug, Mode::ImageTransferComplete] {
             let mut wire = Wire::new(Device::dump_after(device::hello(1), w.memory.clone()), Division::Random, seed);
             let mut sink = Record::default();
             let end = sahara_run(&mut wire, &Options::new(w.backend, mode).names(&w.names), &mut sink, |_| ());
-            assert_eq!(end.unwrap(), Outcome::Dumped { reads: w.memory_reads() }, "seed {seed}");
-            assert_eq!((sink.0, wire.device.heard()[20]), (w.kept(), mode as u8), "seed {seed}");
+            assert_eq!(end.unwrap(), Outcome::Dumped { reads: w.memory_reads() }, "seed {seed}, {w:?}");
+            assert_eq!((sink.0, wire.device.heard()[20]), (w.kept(), mode as u8), "seed {seed}, {w:?}");
         }
     }
 }
@@ -123,24 +121,29 @@ fn replies() {
 /// Progress grows to each region's length.
 #[test]
 fn progress() {
-    let regions = [Region::new("A", 0, 10_000), Region::new("B", 1 << 40, 4096), Region::new("C", 5, 0)];
-    let mut wire = Wire::new(Device::dump(Memory::new(1, 1 << 50, &regions)), Division::Random, 1);
-    let mut seen: Vec<Progress> = Vec::new();
-    let mut driver = Options::new(Backend::Usb, Mode::MemoryDebug).start().unwrap();
-    driver.run(&mut wire, &mut Count::default(), |p| seen.push(p)).unwrap();
-    for (place, len) in [(0, 10_000), (1, 4096)] {
-        let of: Vec<u64> = seen.iter().filter(|p| p.place == place && p.len == len).map(|p| p.done).collect();
-        assert!(of.windows(2).all(|w| w[0] < w[1]) && of.last() == Some(&len), "{of:?}");
+    for width in Width::BOTH {
+        let high = width.end_less(4096);
+        let regions = [Region::new("A", 0, 10_000), Region::new("B", high, 4096), Region::new("C", 5, 0)];
+        let w = World::new(width, Backend::Usb, &regions);
+        let mut wire = Wire::new(Device::dump(w.memory.clone()), Division::Random, 1);
+        let mut seen: Vec<Progress> = Vec::new();
+        let mut driver = w.options().start().unwrap();
+        driver.run(&mut wire, &mut Count::default(), |p| seen.push(p)).unwrap();
+        for (place, len) in [(0, 10_000), (1, 4096)] {
+            let of: Vec<u64> = seen.iter().filter(|p| p.place == place && p.len == len).map(|p| p.done).collect();
+            assert!(of.windows(2).all(|w| w[0] < w[1]) && of.last() == Some(&len), "{of:?}");
+        }
+        assert!(seen.iter().all(|p| p.place < 2));
+        // what the device is stays known behind the end
+        assert_eq!((driver.session().width(), driver.table()), (host_width(w.width()), w.memory.table()));
+        assert_eq!(driver.entries().map(|e| (e.base, e.len)).collect::<Vec<_>>(), [(0, 10_000), (high, 4096), (5, 0)]);
     }
-    assert!(seen.iter().all(|p| p.place < 2));
-    assert_eq!(driver.table()[..192], regions.iter().flat_map(Region::bytes).collect::<Vec<u8>>());
 }
 
 /// Over a real socket, with the device in a thread of its own.
 #[test]
 fn over_a_socket() {
-    for seed in 0..40 {
-        let w = world(seed + 100_000);
+    for (seed, w) in worlds(100_000..100_040) {
         let (mut host, far) = device::Socket::pair().unwrap();
         let device = Device::dump(w.memory.clone());
         let thread = std::thread::spawn(move || device::serve(device, far, seed).unwrap());
@@ -150,7 +153,7 @@ fn over_a_socket() {
         assert_eq!(host.empty_reads, w.empty_reads());
         drop(host);
         let (device, _) = thread.join().unwrap();
-        assert_eq!(sink.0, w.kept(), "seed {seed}");
+        assert_eq!(sink.0, w.kept(), "seed {seed}, {w:?}");
         assert_eq!((device.wrong(), device.queued()), (None, 0));
     }
 }

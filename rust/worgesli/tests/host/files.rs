@@ -1,5 +1,5 @@
 //! The sink that writes files.
-use device::{not_run, Device, Division, Faults, Memory, Region, Wire};
+use device::{not_run, Device, Division, Faults, Memory, Region, Width, Wire};
 use std::fs::{self, File};
 use std::io::ErrorKind;
 use std::os::unix::fs::{symlink, PermissionsExt};
@@ -45,14 +45,14 @@ impl Drop for Temporary {
     }
 }
 
-fn start(regions: &[Region], faults: Faults) -> (Memory, Wire, Driver) {
-    let memory = Memory::new(8, 1 << 50, regions);
+fn start(width: Width, regions: &[Region], faults: Faults) -> (Memory, Wire, Driver) {
+    let memory = Memory::of(width, 8, width.half(), regions);
     let wire = Wire::new(Device::dump(memory.clone()), Division::Random, 8).with(faults);
     (memory, wire, Options::new(Backend::Usb, Mode::MemoryDebug).start().unwrap())
 }
 
-fn fetch(regions: &[Region], sink: &mut Folder) -> (Memory, Result<Outcome, Error>) {
-    let (memory, mut wire, mut driver) = start(regions, Faults::default());
+fn fetch(width: Width, regions: &[Region], sink: &mut Folder) -> (Memory, Result<Outcome, Error>) {
+    let (memory, mut wire, mut driver) = start(width, regions, Faults::default());
     (memory, driver.run(&mut wire, sink, |_| ()))
 }
 
@@ -83,25 +83,27 @@ fn keep(sink: &mut Folder, mut bytes: &[u8]) {
 /// Each region in a file of its own, two of one name too, also where the names differ in case alone.
 #[test]
 fn a_file_for_each_region() {
-    let t = Temporary::new();
-    let regions = [
-        Region::new("DDR.BIN", 0, 5000),
-        Region::new("OCIMEM.BIN", 1 << 20, 4096),
-        Region::new("EMPTY.BIN", 3, 0),
-        Region::new("DDR.BIN", 1 << 30, 700),
-        Region::new("DDR.BIN~2", 5, 10),
-        Region::new("ddr.bin", 6, 20),
-    ];
-    let mut sink = Folder::new(t.dump()).unwrap();
-    let (memory, end) = fetch(&regions, &mut sink);
-    assert_eq!(end.unwrap(), Outcome::Dumped { reads: 1 + 2 + 1 + 1 + 1 + 1 });
-    let names = ["DDR.BIN", "OCIMEM.BIN", "EMPTY.BIN", "DDR.BIN~2", "DDR.BIN%7E2", "ddr.bin~3"];
-    assert_eq!(files(&sink), names);
-    for (kept, r) in sink.regions().iter().zip(&regions) {
-        assert!(t.read(&kept.file) == memory.bytes(r.base, r.len as usize), "{}", kept.file);
-        assert_eq!((kept.base, kept.len, kept.bytes, &kept.state), (r.base, r.len, r.len, &State::Whole));
+    for width in Width::BOTH {
+        let t = Temporary::new();
+        let regions = [
+            Region::new("DDR.BIN", 0, 5000),
+            Region::new("OCIMEM.BIN", 1 << 20, 4096),
+            Region::new("EMPTY.BIN", 3, 0),
+            Region::new("DDR.BIN", 1 << 30, 700),
+            Region::new("DDR.BIN~2", 5, 10),
+            Region::new("ddr.bin", 6, 20),
+        ];
+        let mut sink = Folder::new(t.dump()).unwrap();
+        let (memory, end) = fetch(width, &regions, &mut sink);
+        assert_eq!(end.unwrap(), Outcome::Dumped { reads: 1 + 2 + 1 + 1 + 1 + 1 });
+        let names = ["DDR.BIN", "OCIMEM.BIN", "EMPTY.BIN", "DDR.BIN~2", "DDR.BIN%7E2", "ddr.bin~3"];
+        assert_eq!(files(&sink), names);
+        for (kept, r) in sink.regions().iter().zip(&regions) {
+            assert!(t.read(&kept.file) == memory.bytes(r.base, r.len as usize), "{}", kept.file);
+            assert_eq!((kept.base, kept.len, kept.bytes, &kept.state), (r.base, r.len, r.len, &State::Whole));
+        }
+        assert_eq!(t.names().len(), 6 + 1);
     }
-    assert_eq!(t.names().len(), 6 + 1);
 }
 
 const HOSTILE: [&[u8]; 24] = [
@@ -134,25 +136,27 @@ const HOSTILE: [&[u8]; 24] = [
 /// No name stops a fetch: each is escaped, in the folder and in the manifest, and can be had back.
 #[test]
 fn hostile_filenames() {
-    let mut regions: Vec<Region> = HOSTILE.iter().zip(1..).map(|(name, n)| Region::new(name, n, 100 + n)).collect();
-    regions.push(Region::new("BEHIND.BIN", 1 << 20, 3000));
-    let t = Temporary::new();
-    let mut sink = Folder::new(t.dump()).unwrap();
-    let (memory, end) = fetch(&regions, &mut sink);
-    assert_eq!(end.unwrap(), Outcome::Dumped { reads: 26 });
-    for ((kept, r), name) in sink.regions().iter().zip(&regions).zip(HOSTILE) {
-        assert_eq!((kept.name.as_slice(), &kept.file), (name, &escape(name)));
-        assert_eq!(unescape(&kept.file).unwrap(), name);
-        assert!(t.read(&kept.file) == memory.bytes(r.base, r.len as usize));
+    for width in Width::BOTH {
+        let mut regions: Vec<Region> = HOSTILE.iter().zip(1..).map(|(name, n)| Region::new(name, n, 100 + n)).collect();
+        regions.push(Region::new("BEHIND.BIN", 1 << 20, 3000));
+        let t = Temporary::new();
+        let mut sink = Folder::new(t.dump()).unwrap();
+        let (memory, end) = fetch(width, &regions, &mut sink);
+        assert_eq!(end.unwrap(), Outcome::Dumped { reads: 26 });
+        for ((kept, r), name) in sink.regions().iter().zip(&regions).zip(HOSTILE) {
+            assert_eq!((kept.name.as_slice(), &kept.file), (name, &escape(name)));
+            assert_eq!(unescape(&kept.file).unwrap(), name);
+            assert!(t.read(&kept.file) == memory.bytes(r.base, r.len as usize));
+        }
+        assert_eq!(sink.regions().len(), regions.len());
+        assert_eq!(t.names().len(), regions.len() + 1);
+        assert!(t.names().iter().all(|n| n.bytes().all(|b| matches!(b, b' '..=b'~')) && !n.starts_with(['-', '.', ' '])));
+        let text = fs::read_to_string(sink.manifest_path()).unwrap();
+        assert!(text.bytes().all(|b| matches!(b, b' '..=b'~' | b'\t' | b'\n')));
+        assert_eq!(text.lines().count(), regions.len() + 1);
+        // nothing beside the dump
+        assert_eq!(fs::read_dir(&t.0).unwrap().count(), 1);
     }
-    assert_eq!(sink.regions().len(), regions.len());
-    assert_eq!(t.names().len(), regions.len() + 1);
-    assert!(t.names().iter().all(|n| n.bytes().all(|b| matches!(b, b' '..=b'~')) && !n.starts_with(['-', '.', ' '])));
-    let text = fs::read_to_string(sink.manifest_path()).unwrap();
-    assert!(text.bytes().all(|b| matches!(b, b' '..=b'~' | b'\t' | b'\n')));
-    assert_eq!(text.lines().count(), regions.len() + 1);
-    // nothing beside the dump
-    assert_eq!(fs::read_dir(&t.0).unwrap().count(), 1);
 }
 
 /// The sink judges by itself, without the session before it: names that are not UTF-8, or fill all 20 bytes.
@@ -177,66 +181,71 @@ fn names_that_a_session_refuses() {
 /// What is not whole has no final name: a device that goes leaves a `.part`, and the manifest says what is what.
 #[test]
 fn parts_have_other_names() {
-    let regions = [Region::new("A.BIN", 0, 5000), Region::new("B.BIN", 1 << 20, 9000), Region::new("C.BIN", 9, 9)];
-    let t = Temporary::new();
-    let opening = 48 + 24 + 3 * 64;
-    let (memory, mut wire, mut driver) = start(&regions, Faults { ends_after: Some(opening + 5000 + 6000), ..Faults::default() });
-    let mut sink = Folder::new(t.dump()).unwrap();
-    assert!(matches!(driver.run(&mut wire, &mut sink, |_| ()), Err(Error::NoBytes)));
-    assert_eq!(t.names(), ["A.BIN", "B.BIN.part", "manifest~1.tsv"]);
-    let manifest = sink.manifest_path().to_owned();
-    sink.finish().unwrap();
-    let told = read_manifest(manifest).unwrap();
-    let kept: Vec<_> = told.iter().map(|k| (k.file.as_str(), k.bytes, &k.state)).collect();
-    assert_eq!(kept, [("A.BIN", 5000, &State::Whole), ("B.BIN.part", 6000, &State::Part)]);
-    assert!(memory.bytes(1 << 20, 6000) == t.read("B.BIN.part"));
+    for width in Width::BOTH {
+        let regions = [Region::new("A.BIN", 0, 5000), Region::new("B.BIN", 1 << 20, 9000), Region::new("C.BIN", 9, 9)];
+        let t = Temporary::new();
+        let opening = (48 + width.packet_len() + 3 * width.entry_len()) as u64;
+        let (memory, mut wire, mut driver) =
+            start(width, &regions, Faults { ends_after: Some(opening + 5000 + 6000), ..Faults::default() });
+        let mut sink = Folder::new(t.dump()).unwrap();
+        assert!(matches!(driver.run(&mut wire, &mut sink, |_| ()), Err(Error::NoBytes)));
+        assert_eq!(t.names(), ["A.BIN", "B.BIN.part", "manifest~1.tsv"]);
+        let manifest = sink.manifest_path().to_owned();
+        sink.finish().unwrap();
+        let told = read_manifest(manifest).unwrap();
+        let kept: Vec<_> = told.iter().map(|k| (k.file.as_str(), k.bytes, &k.state)).collect();
+        assert_eq!(kept, [("A.BIN", 5000, &State::Whole), ("B.BIN.part", 6000, &State::Part)]);
+        assert!(memory.bytes(1 << 20, 6000) == t.read("B.BIN.part"));
 
-    // a second fetch into the same folder: nothing of the first is touched
-    let before = fs::read(t.dump().join("manifest~1.tsv")).unwrap();
-    let mut sink = Folder::new(t.dump()).unwrap();
-    assert_eq!(fetch(&regions, &mut sink).1.unwrap(), Outcome::Dumped { reads: 7 });
-    assert_eq!(files(&sink), ["A.BIN~2", "B.BIN~2", "C.BIN"]);
-    let all = ["A.BIN", "A.BIN~2", "B.BIN.part", "B.BIN~2", "C.BIN", "manifest~1.tsv", "manifest~2.tsv"];
-    assert_eq!(t.names(), all);
-    assert_eq!(fs::read(t.dump().join("manifest~1.tsv")).unwrap(), before);
-    assert!(t.read("B.BIN~2") == memory.bytes(1 << 20, 9000));
+        // a second fetch into the same folder: nothing of the first is touched
+        let before = fs::read(t.dump().join("manifest~1.tsv")).unwrap();
+        let mut sink = Folder::new(t.dump()).unwrap();
+        assert_eq!(fetch(width, &regions, &mut sink).1.unwrap(), Outcome::Dumped { reads: 7 });
+        assert_eq!(files(&sink), ["A.BIN~2", "B.BIN~2", "C.BIN"]);
+        let all = ["A.BIN", "A.BIN~2", "B.BIN.part", "B.BIN~2", "C.BIN", "manifest~1.tsv", "manifest~2.tsv"];
+        assert_eq!(t.names(), all);
+        assert_eq!(fs::read(t.dump().join("manifest~1.tsv")).unwrap(), before);
+        assert!(t.read("B.BIN~2") == memory.bytes(1 << 20, 9000));
 
-    // a third one with the same sink, over a region that was left open
-    let (_, mut wire, mut driver) = start(&regions, Faults { ends_after: Some(opening + 100), ..Faults::default() });
-    driver.run(&mut wire, &mut sink, |_| ()).unwrap_err();
-    assert!(fetch(&regions, &mut sink).1.is_ok());
-    let state = |file: &str| sink.regions().iter().find(|k| k.file == file).unwrap().state.clone();
-    assert!(matches!(state("A.BIN~3.part"), State::Lost(_)) && state("A.BIN~4") == State::Whole);
+        // a third one with the same sink, over a region that was left open
+        let (_, mut wire, mut driver) = start(width, &regions, Faults { ends_after: Some(opening + 100), ..Faults::default() });
+        driver.run(&mut wire, &mut sink, |_| ()).unwrap_err();
+        assert!(fetch(width, &regions, &mut sink).1.is_ok());
+        let state = |file: &str| sink.regions().iter().find(|k| k.file == file).unwrap().state.clone();
+        assert!(matches!(state("A.BIN~3.part"), State::Lost(_)) && state("A.BIN~4") == State::Whole);
+    }
 }
 
 /// No file that is there is opened or overwritten: no file, no folder, no link, wherever it leads; a `.part` neither.
 #[test]
 fn no_file_is_overwritten() {
-    for name in ["DDR.BIN", "DDR.BIN.part", "manifest~1.tsv", "manifest~1.tsv.new", "manifest~1.tsv.claim"] {
-        for way in 0..4 {
-            let t = Temporary::new();
-            let (path, other) = (t.dump().join(name), t.0.join("other"));
-            fs::create_dir(t.dump()).unwrap();
-            match way {
-                0 => fs::write(&path, b"before").unwrap(),
-                1 => fs::create_dir(&path).unwrap(),
-                2 => symlink(&other, &path).unwrap(),
-                _ => {
-                    fs::write(&other, b"before").unwrap();
-                    symlink(&other, &path).unwrap();
+    for width in Width::BOTH {
+        for name in ["DDR.BIN", "DDR.BIN.part", "manifest~1.tsv", "manifest~1.tsv.new", "manifest~1.tsv.claim"] {
+            for way in 0..4 {
+                let t = Temporary::new();
+                let (path, other) = (t.dump().join(name), t.0.join("other"));
+                fs::create_dir(t.dump()).unwrap();
+                match way {
+                    0 => fs::write(&path, b"before").unwrap(),
+                    1 => fs::create_dir(&path).unwrap(),
+                    2 => symlink(&other, &path).unwrap(),
+                    _ => {
+                        fs::write(&other, b"before").unwrap();
+                        symlink(&other, &path).unwrap();
+                    }
                 }
-            }
-            let mut sink = Folder::new(t.dump()).unwrap();
-            let (memory, end) = fetch(&[Region::new("DDR.BIN", 0, 900), Region::new("E.BIN", 0, 5)], &mut sink);
-            end.unwrap();
-            let expected = if name.starts_with("DDR") { "DDR.BIN~2" } else { "DDR.BIN" };
-            assert_eq!(files(&sink), [expected, "E.BIN"], "{name} {way}");
-            assert!(t.read(expected) == memory.bytes(0, 900));
-            let is = fs::symlink_metadata(&path).unwrap();
-            assert_eq!((is.is_dir(), is.is_symlink()), (way == 1, way > 1));
-            match way {
-                0 | 3 => assert_eq!(fs::read(&path).unwrap(), b"before"),
-                _ => assert!(!other.exists()),
+                let mut sink = Folder::new(t.dump()).unwrap();
+                let (memory, end) = fetch(width, &[Region::new("DDR.BIN", 0, 900), Region::new("E.BIN", 0, 5)], &mut sink);
+                end.unwrap();
+                let expected = if name.starts_with("DDR") { "DDR.BIN~2" } else { "DDR.BIN" };
+                assert_eq!(files(&sink), [expected, "E.BIN"], "{name} {way}");
+                assert!(t.read(expected) == memory.bytes(0, 900));
+                let is = fs::symlink_metadata(&path).unwrap();
+                assert_eq!((is.is_dir(), is.is_symlink()), (way == 1, way > 1));
+                match way {
+                    0 | 3 => assert_eq!(fs::read(&path).unwrap(), b"before"),
+                    _ => assert!(!other.exists()),
+                }
             }
         }
     }
@@ -272,93 +281,99 @@ fn several_at_a_time() {
 /// Files and folders are for the owner alone. A folder that is there keeps its mode.
 #[test]
 fn for_the_owner_alone() {
-    let mode = |path: &Path| fs::metadata(path).unwrap().permissions().mode() & 0o777;
-    let t = Temporary::new();
-    let deep = t.dump().join("a/b");
-    let mut sink = Folder::new(&deep).unwrap();
-    fetch(&[Region::new("A", 0, 9)], &mut sink).1.unwrap();
-    sink.open(1, &entry(b"B", 0, 9)).unwrap();
-    for path in [t.dump(), t.dump().join("a"), deep.clone()] {
-        assert_eq!(mode(&path), 0o700, "{}", path.display());
+    for width in Width::BOTH {
+        let mode = |path: &Path| fs::metadata(path).unwrap().permissions().mode() & 0o777;
+        let t = Temporary::new();
+        let deep = t.dump().join("a/b");
+        let mut sink = Folder::new(&deep).unwrap();
+        fetch(width, &[Region::new("A", 0, 9)], &mut sink).1.unwrap();
+        sink.open(1, &entry(b"B", 0, 9)).unwrap();
+        for path in [t.dump(), t.dump().join("a"), deep.clone()] {
+            assert_eq!(mode(&path), 0o700, "{}", path.display());
+        }
+        for name in ["A", "B.part", "manifest~1.tsv"] {
+            assert_eq!(mode(&deep.join(name)), 0o600, "{name}");
+        }
+        fs::set_permissions(t.dump(), PermissionsExt::from_mode(0o755)).unwrap();
+        Folder::new(t.dump()).unwrap();
+        assert_eq!(mode(&t.dump()), 0o755);
+        // what is no folder is none
+        fs::write(t.0.join("file"), b"").unwrap();
+        assert!(Folder::new(t.0.join("file")).is_err() && Folder::new(t.0.join("file/x")).is_err() && Folder::new("").is_err());
     }
-    for name in ["A", "B.part", "manifest~1.tsv"] {
-        assert_eq!(mode(&deep.join(name)), 0o600, "{name}");
-    }
-    fs::set_permissions(t.dump(), PermissionsExt::from_mode(0o755)).unwrap();
-    Folder::new(t.dump()).unwrap();
-    assert_eq!(mode(&t.dump()), 0o755);
-    // what is no folder is none
-    fs::write(t.0.join("file"), b"").unwrap();
-    assert!(Folder::new(t.0.join("file")).is_err() && Folder::new(t.0.join("file/x")).is_err() && Folder::new("").is_err());
 }
 
 /// A table cannot make it write more than the caller allows; with more allowed the run goes on.
 #[test]
 fn limit() {
-    let t = Temporary::new();
-    let regions = [Region::new("A", 0, 5000), Region::new("B", 0, 5001), Region::new("C", 0, 1 << 44)];
-    let (memory, mut wire, mut driver) = start(&regions, Faults::default());
-    let mut sink = Folder::new(t.dump()).unwrap().limit(10_000);
-    let mut refused = |sink: &mut Folder| match driver.run(&mut wire, sink, |_| ()) {
-        Err(Error::Sink(e)) => (e.kind(), e.to_string()),
-        end => panic!("{end:?}"),
-    };
-    let (kind, why) = refused(&mut sink);
-    assert_eq!(kind, ErrorKind::QuotaExceeded);
-    assert!(why.contains("10001") && why.contains("10000"), "{why}");
-    assert_eq!(t.names(), ["A", "manifest~1.tsv"]);
-    sink.set_limit(10_001);
-    assert_eq!(refused(&mut sink).0, ErrorKind::QuotaExceeded);
-    assert_eq!(t.names(), ["A", "B", "manifest~1.tsv"]);
-    assert!(t.read("B") == memory.bytes(0, 5001));
-    // lengths that are no number together
-    sink.open(3, &entry(b"D", 0, u64::MAX)).unwrap_err();
-    // without a limit any length is begun, and no more than it is taken
-    sink.set_limit(u64::MAX);
-    sink.open(4, &entry(b"E", 0, 2)).unwrap();
-    assert_eq!(sink.bytes(&[1, 2, 3]).unwrap_err().kind(), ErrorKind::InvalidInput);
-    keep(&mut sink, &[1, 2]);
-    assert!(sink.bytes(&[3]).is_err());
-    sink.close(4).unwrap();
-    // a region that was lost counts with what was written of it
-    sink.set_limit(10_003 + 600);
-    sink.open(5, &entry(b"F", 0, 600)).unwrap();
-    keep(&mut sink, &[0; 50]);
-    assert!(lost(sink.close(5)).contains("50 of its 600"));
-    assert_eq!(sink.open(5, &entry(b"F", 0, 600)).unwrap_err().kind(), ErrorKind::QuotaExceeded);
-    sink.set_limit(10_003 + 650);
-    sink.open(5, &entry(b"F", 0, 600)).unwrap();
+    for width in Width::BOTH {
+        let t = Temporary::new();
+        let regions = [Region::new("A", 0, 5000), Region::new("B", 0, 5001), Region::new("C", 0, width.half())];
+        let (memory, mut wire, mut driver) = start(width, &regions, Faults::default());
+        let mut sink = Folder::new(t.dump()).unwrap().limit(10_000);
+        let mut refused = |sink: &mut Folder| match driver.run(&mut wire, sink, |_| ()) {
+            Err(Error::Sink(e)) => (e.kind(), e.to_string()),
+            end => panic!("{end:?}"),
+        };
+        let (kind, why) = refused(&mut sink);
+        assert_eq!(kind, ErrorKind::QuotaExceeded);
+        assert!(why.contains("10001") && why.contains("10000"), "{why}");
+        assert_eq!(t.names(), ["A", "manifest~1.tsv"]);
+        sink.set_limit(10_001);
+        assert_eq!(refused(&mut sink).0, ErrorKind::QuotaExceeded);
+        assert_eq!(t.names(), ["A", "B", "manifest~1.tsv"]);
+        assert!(t.read("B") == memory.bytes(0, 5001));
+        // lengths that are no number together
+        sink.open(3, &entry(b"D", 0, u64::MAX)).unwrap_err();
+        // without a limit any length is begun, and no more than it is taken
+        sink.set_limit(u64::MAX);
+        sink.open(4, &entry(b"E", 0, 2)).unwrap();
+        assert_eq!(sink.bytes(&[1, 2, 3]).unwrap_err().kind(), ErrorKind::InvalidInput);
+        keep(&mut sink, &[1, 2]);
+        assert!(sink.bytes(&[3]).is_err());
+        sink.close(4).unwrap();
+        // a region that was lost counts with what was written of it
+        sink.set_limit(10_003 + 600);
+        sink.open(5, &entry(b"F", 0, 600)).unwrap();
+        keep(&mut sink, &[0; 50]);
+        assert!(lost(sink.close(5)).contains("50 of its 600"));
+        assert_eq!(sink.open(5, &entry(b"F", 0, 600)).unwrap_err().kind(), ErrorKind::QuotaExceeded);
+        sink.set_limit(10_003 + 650);
+        sink.open(5, &entry(b"F", 0, 600)).unwrap();
+    }
 }
 
 /// The manifest is a plain table, and its sums are those of `sha256sum`, where there is one.
 #[test]
 fn manifest() {
-    let t = Temporary::new();
-    let regions = [Region::new("A.BIN", 0x1468_0000, 70_001), Region::new("B/.BIN", 1, 0), Region::new("A.BIN", 7, 9)];
-    let mut sink = Folder::new(t.dump()).unwrap();
-    fetch(&regions, &mut sink).1.unwrap();
-    let path = sink.manifest_path().to_owned();
-    assert_eq!(read_manifest(&path).unwrap(), sink.regions());
-    let text = fs::read_to_string(&path).unwrap();
-    let columns = |i: usize| -> Vec<&str> { text.lines().map(|l| l.split('\t').nth(i).unwrap()).collect() };
-    assert_eq!(columns(0), ["#worgesli-manifest-1", "0", "1", "2"]);
-    assert_eq!(columns(1), ["name", "A.BIN", "B%2F.BIN", "A.BIN"]);
-    assert_eq!(columns(2), ["file", "A.BIN", "B%2F.BIN", "A.BIN~2"]);
-    assert_eq!(columns(3), ["base", "0x0000000014680000", "0x0000000000000001", "0x0000000000000007"]);
-    assert_eq!(columns(4), ["length", "70001", "0", "9"]);
-    assert_eq!(columns(5), ["bytes", "70001", "0", "9"]);
-    assert_eq!(columns(6), ["state", "whole", "whole", "whole"]);
-    assert_eq!(columns(8), ["why", "-", "-", "-"]);
-    for (file, sum) in columns(2).iter().zip(columns(7)).skip(1) {
-        match Command::new("sha256sum").arg("--").arg(file).current_dir(t.dump()).output() {
-            Ok(said) => assert_eq!(String::from_utf8(said.stdout).unwrap(), format!("{sum}  {file}\n")),
-            Err(_) => not_run("sha256sum is not on this machine", "our SHA-256 beside it"),
+    for width in Width::BOTH {
+        let t = Temporary::new();
+        let regions = [Region::new("A.BIN", 0x1468_0000, 70_001), Region::new("B/.BIN", 1, 0), Region::new("A.BIN", 7, 9)];
+        let mut sink = Folder::new(t.dump()).unwrap();
+        fetch(width, &regions, &mut sink).1.unwrap();
+        let path = sink.manifest_path().to_owned();
+        assert_eq!(read_manifest(&path).unwrap(), sink.regions());
+        let text = fs::read_to_string(&path).unwrap();
+        let columns = |i: usize| -> Vec<&str> { text.lines().map(|l| l.split('\t').nth(i).unwrap()).collect() };
+        assert_eq!(columns(0), ["#worgesli-manifest-1", "0", "1", "2"]);
+        assert_eq!(columns(1), ["name", "A.BIN", "B%2F.BIN", "A.BIN"]);
+        assert_eq!(columns(2), ["file", "A.BIN", "B%2F.BIN", "A.BIN~2"]);
+        assert_eq!(columns(3), ["base", "0x0000000014680000", "0x0000000000000001", "0x0000000000000007"]);
+        assert_eq!(columns(4), ["length", "70001", "0", "9"]);
+        assert_eq!(columns(5), ["bytes", "70001", "0", "9"]);
+        assert_eq!(columns(6), ["state", "whole", "whole", "whole"]);
+        assert_eq!(columns(8), ["why", "-", "-", "-"]);
+        for (file, sum) in columns(2).iter().zip(columns(7)).skip(1) {
+            match Command::new("sha256sum").arg("--").arg(file).current_dir(t.dump()).output() {
+                Ok(said) => assert_eq!(String::from_utf8(said.stdout).unwrap(), format!("{sum}  {file}\n")),
+                Err(_) => not_run("sha256sum is not on this machine", "our SHA-256 beside it"),
+            }
         }
+        // without sums
+        let mut sink = Folder::new(t.dump()).unwrap().digests(false);
+        fetch(width, &regions, &mut sink).1.unwrap();
+        assert!(sink.regions().iter().all(|k| k.sha256.is_none() && k.state == State::Whole));
     }
-    // without sums
-    let mut sink = Folder::new(t.dump()).unwrap().digests(false);
-    fetch(&regions, &mut sink).1.unwrap();
-    assert!(sink.regions().iter().all(|k| k.sha256.is_none() && k.state == State::Whole));
 }
 
 /// A sink can be sent to another thread, and prints no byte of a region.
@@ -532,7 +547,7 @@ fn wrong_manifests() {
 fn full_disk() {
     const ON: &str = "WORGESLI_TEST_FULL_DISK";
     if let Ok(folder) = std::env::var(ON) {
-        return on_a_full_disk(folder.as_ref());
+        return Width::BOTH.into_iter().for_each(|width| on_a_full_disk(width, folder.as_ref()));
     }
     let t = Temporary::new();
     let script = "mount -t tmpfs -o size=400k,mode=700 none \"$0\" || exit 99; exec \"$1\" --exact files::full_disk --nocapture";
@@ -542,17 +557,19 @@ fn full_disk() {
         .env(ON, &t.0)
         .output();
     match ran {
-        Ok(out) if out.status.success() => assert!(String::from_utf8_lossy(&out.stdout).contains("the disk was full"), "{out:?}"),
+        Ok(out) if out.status.success() => {
+            assert_eq!(String::from_utf8_lossy(&out.stdout).matches("the disk was full").count(), 2, "{out:?}")
+        }
         Ok(out) if out.status.code() == Some(101) => panic!("{}", String::from_utf8_lossy(&out.stdout)),
         _ => not_run("no small disk can be mounted here", "a fetch onto a disk that is really full"),
     }
 }
 
-fn on_a_full_disk(folder: &Path) {
+fn on_a_full_disk(width: Width, folder: &Path) {
     let ballast = folder.join("ballast");
     fs::write(&ballast, vec![0; 200_000]).unwrap();
     let regions = [Region::new("A.BIN", 0, 100_000), Region::new("B.BIN", 1 << 20, 150_000), Region::new("C.BIN", 5, 5)];
-    let (memory, mut wire, mut driver) = start(&regions, Faults::default());
+    let (memory, mut wire, mut driver) = start(width, &regions, Faults::default());
     let mut sink = Folder::new(folder.join("dump")).unwrap();
     for _ in 0..3 {
         match driver.run(&mut wire, &mut sink, |_| ()) {
@@ -571,4 +588,5 @@ fn on_a_full_disk(folder: &Path) {
         assert!(whole(kept) && fs::read(sink.path().join(&kept.file)).unwrap() == memory.bytes(r.base, r.len as usize));
     }
     assert_eq!(sink.regions().len(), 3);
+    fs::remove_dir_all(folder.join("dump")).unwrap();
 }

@@ -11,4 +11,5 @@ mod panics;
 mod resync;
 mod saved;
 mod steps;
+mod widths;
 mod world;

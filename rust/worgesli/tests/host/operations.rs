@@ -1,8 +1,8 @@
 //! The single operations: packets, bundles, images, entries, selection, UTF-8.
 use crate::guard::{Guarded, Side};
-use crate::world::world;
-use device::Rng;
-use worgesli::{entry_at, next_selected, parse_packet, reset, utf8, Body, Command, ImageSet, Mode, NameList, SLOTS};
+use crate::world::{host_width, worlds};
+use device::{Region, Rng};
+use worgesli::{entry_at, next_selected, parse_packet, raw, reset, utf8, Body, Command, ImageSet, Mode, NameList, Width, SLOTS};
 
 #[test]
 fn packets() {
@@ -22,6 +22,8 @@ fn packets() {
         (device::command_ready(), Body::CommandReady),
         (device::execute_resp(2, 9), Body::ExecResp { command: Command::ReadHwId, len: 9 }),
         (device::packet(0x0f, &[1]), Body::ExecData { command: Command::ReadSerialNum }),
+        (device::packet(9, &[0xf123_4567, 52]), Body::DebugReq { addr: 0xf123_4567, len: 52 }),
+        (device::packet(0x0a, &[1, u32::MAX]), Body::ReadMemReq { addr: 1, len: u32::MAX }),
         (device::mem_debug64(1 << 40, 64), Body::Debug64Req { addr: 1 << 40, len: 64 }),
         (device::packet64(0x11, &[u64::MAX, 1]), Body::ReadMem64Req { addr: u64::MAX, len: 1 }),
         (device::read_data64(1 << 33, 1 << 34, 3), Body::ReadData64Req { image: 1 << 33, offset: 1 << 34, len: 3 }),
@@ -41,7 +43,9 @@ fn packets() {
     let number = |b: &[u8]| parse_packet(b).unwrap_err().number();
     assert_eq!(number(&device::hello(4)), 9);
     assert_eq!(number(&device::execute_resp(4, 0)), 9);
-    assert_eq!(number(&device::packet(7, &[])), 8);
+    for unimplemented in [7, 0x0c, 0x0d, 0x13, 0x14] {
+        assert_eq!(number(&device::packet(unimplemented, &[0, 0])), 8);
+    }
     assert_eq!(number(&device::packet(0x15, &[])), 6);
     assert_eq!(number(b"<?xml version"), 7);
 }
@@ -90,39 +94,88 @@ fn images() {
 
 #[test]
 fn tables() {
-    for seed in 0..2000 {
-        let w = world(seed);
+    for (seed, w) in worlds(0..2000) {
         let table = Guarded::new(&w.memory.bytes(w.memory.table_at(), w.memory.table_len() as usize), Side::Behind);
-        let n = w.regions.len();
+        let (n, width) = (w.regions.len(), host_width(w.width()));
         for (i, r) in w.regions.iter().enumerate() {
-            let e = entry_at(&table, i).unwrap();
+            let e = entry_at(&table, width, i).unwrap();
             assert_eq!((e.save_pref, e.base, e.len), (r.save_pref, r.base, r.len));
             assert_eq!((e.description, e.filename), (r.description, r.filename));
             assert!(e.name().unwrap().ends_with(".BIN"));
         }
-        assert_eq!(entry_at(&table, n), None);
-        assert_eq!(entry_at(&table, usize::MAX), None);
+        assert_eq!(entry_at(&table, width, n), None);
+        assert_eq!(entry_at(&table, width, usize::MAX), None);
         let names = NameList::new(&w.names).unwrap();
         let mut found = Vec::new();
-        while let Some(i) = next_selected(&table, n, &names, found.last().map_or(0, |i| i + 1)) {
+        while let Some(i) = next_selected(&table, width, n, &names, found.last().map_or(0, |i| i + 1)) {
             found.push(i);
         }
-        assert_eq!(found, w.selected(), "seed {seed}");
+        assert_eq!(found, w.selected(), "seed {seed}, {w:?}");
     }
+}
+
+/// So many entries as fit the bytes, each field from its own: 52 bytes with numbers of 4, 64 with numbers of 8.
+#[test]
+fn entries_of_each_width() {
+    let bytes: Vec<u8> = (0..=255).collect();
+    let number = |at: usize, len: usize| bytes[at..at + len].iter().rev().fold(0, |n, b| n << 8 | u64::from(*b));
+    for (width, size, len) in [(Width::Bits32, 52, 4), (Width::Bits64, 64, 8)] {
+        assert_eq!(width.entry_len(), size);
+        for end in 0..=bytes.len() {
+            let table = Guarded::new(&bytes[..end], Side::Behind);
+            for i in 0..end / size {
+                let (e, at) = (entry_at(&table, width, i).unwrap(), i * size);
+                let numbers = [at, at + len, at + 2 * len].map(|at| number(at, len));
+                assert_eq!([e.save_pref, e.base, e.len], numbers);
+                let texts = &bytes[at + 3 * len..];
+                assert_eq!((&e.description[..], &e.filename[..]), (&texts[..20], &texts[20..40]));
+            }
+            for none in [end / size, end / size + 1, usize::MAX / size, usize::MAX / size + 1, usize::MAX] {
+                assert_eq!(entry_at(&table, width, none), None, "{width:?}: entry {none} of {end} bytes");
+            }
+            // all are preferred
+            let (names, most) = (NameList::new::<&str>(&[]).unwrap(), usize::MAX);
+            assert_eq!(next_selected(&table, width, most, &names, 0), (end >= size).then_some(0));
+            assert_eq!(next_selected(&table, width, most, &names, end / size), None);
+        }
+    }
+}
+
+/// In a table of a number that is no width nothing is there, and nothing is selected.
+#[test]
+fn numbers_that_are_no_width() {
+    let table = [1; 256];
+    let none = raw::Entry { save_pref: 0, base: 0, len: 0, description: [0; 20], filename: [0; 20], there: 0 };
+    let (no_names, names) = (NameList::new::<&str>(&[]).unwrap(), NameList::new(&[[1; 20]]).unwrap());
+    for number in [0, 1, 31, 33, 52, 63, 65, 96, 128, 1 << 32 | 32, 1 << 32 | 64, 1 << 63, u64::MAX] {
+        assert_eq!(Width::from_number(number), None);
+        for i in [0, 1, 3, usize::MAX] {
+            assert_eq!(raw::entry_at(&table, number, i), none);
+        }
+        for (entries, from) in [(0, 0), (3, 0), (3, 2), (3, 3), (3, 9), (usize::MAX, 0), (usize::MAX, usize::MAX)] {
+            for names in [&no_names, &names] {
+                assert_eq!(raw::next_selected(&table, number, entries, names.bytes(), from), entries.max(from), "width {number}");
+            }
+        }
+    }
+    assert_eq!([32, 64].map(|n| raw::next_selected(&table, n, 3, no_names.bytes(), 1)), [1, 1]);
+    assert_eq!([32, 64].map(|n| raw::next_selected(&table, n, 3, names.bytes(), 1)), [1, 1]);
 }
 
 /// Behind a table's end nothing is selected, and nothing is searched: these would not come to an end otherwise.
 #[test]
 fn more_entries_than_the_table_has() {
-    let table = [device::Region::new(b"A.BIN", 0, 1).unpreferred().bytes(), device::Region::new(b"B.BIN", 0, 1).bytes()].concat();
     let names = |names: &[&str]| NameList::new(names).unwrap();
-    for (list, found) in [(names(&[]), Some(1)), (names(&["a"]), Some(0)), (names(&["c"]), None)] {
-        assert_eq!(next_selected(&table, usize::MAX, &list, 0), found);
-        assert_eq!(next_selected(&table[..127], usize::MAX, &list, 1), None);
+    let lists = [(names(&[]), Some(1)), (names(&["a"]), Some(0)), (names(&["c"]), None)];
+    for ((list, found), of) in device::Width::with_both(lists) {
+        let (mut table, width) = (Region::new(b"A.BIN", 0, 1).unpreferred().bytes(of), host_width(of));
+        table.extend(Region::new(b"B.BIN", 0, 1).bytes(of));
+        assert_eq!(next_selected(&table, width, usize::MAX, &list, 0), found);
+        assert_eq!(next_selected(&table[..table.len() - 1], width, usize::MAX, &list, 1), None);
         for from in [2, 1 << 32, usize::MAX] {
-            assert_eq!(next_selected(&table, usize::MAX, &list, from), None);
+            assert_eq!(next_selected(&table, width, usize::MAX, &list, from), None);
         }
-        assert_eq!(next_selected(&[], usize::MAX, &list, 0), None);
+        assert_eq!(next_selected(&[], width, usize::MAX, &list, 0), None);
     }
 }
 
@@ -130,8 +183,12 @@ fn more_entries_than_the_table_has() {
 #[test]
 fn stems() {
     let selects = |filename: &[u8], name: &str| {
-        let table = device::Region::new(filename, 0, 1).bytes();
-        next_selected(&table, 1, &NameList::new(&[name]).unwrap(), 0) == Some(0)
+        let selected = device::Width::BOTH.map(|of| {
+            let (table, names) = (Region::new(filename, 0, 1).bytes(of), NameList::new(&[name]).unwrap());
+            next_selected(&table, host_width(of), 1, &names, 0) == Some(0)
+        });
+        assert_eq!(selected[0], selected[1]);
+        selected[0]
     };
     assert!(selects(b"OCIMEM.BIN", "ocimem"));
     assert!(!selects(b"DDRCS0", "ddrcs0"));

@@ -1,5 +1,5 @@
 //! Channels, sinks and progress callbacks that panic, and a caller who catches it and goes on.
-use crate::world::{world, Record};
+use crate::world::{worlds, Record};
 use device::{Device, Division, Wire};
 use std::cell::Cell;
 use std::io::{self, Read, Write};
@@ -62,8 +62,7 @@ impl Write for Shaky<'_, Wire> {
 #[test]
 fn panics_lose_nothing() {
     let mut caught = 0;
-    for seed in 0..40 {
-        let w = world(seed);
+    for (seed, w) in worlds(0..40) {
         for gathers in [0, 3000, 65_536] {
             for k in 0.. {
                 let fuse = Fuse(Cell::new(k));
@@ -74,9 +73,9 @@ fn panics_lose_nothing() {
                 let first = go();
                 let panicked = first.is_err();
                 let end = if panicked { go().unwrap() } else { first.unwrap() };
-                assert_eq!(end.unwrap(), Outcome::Dumped { reads: w.memory_reads() }, "seed {seed}, call {k}");
-                assert_eq!(sink.0 .0, w.kept(), "seed {seed}, call {k}");
-                assert_eq!((channel.0.device.wrong(), channel.0.device.queued()), (None, 0), "seed {seed}, call {k}");
+                assert_eq!(end.unwrap(), Outcome::Dumped { reads: w.memory_reads() }, "seed {seed}, {w:?}, call {k}");
+                assert_eq!(sink.0 .0, w.kept(), "seed {seed}, {w:?}, call {k}");
+                assert_eq!((channel.0.device.wrong(), channel.0.device.queued()), (None, 0), "seed {seed}, {w:?}, call {k}");
                 caught += u64::from(panicked);
                 if !panicked {
                     break;

@@ -1,13 +1,22 @@
 //! Channels that lose bytes, and runs that are older than their channel.
 use crate::files::Temporary;
-use crate::world::{world, Cut, Record, World};
-use device::{Device, Division, Faults, Memory, Region, Rng, Wire};
+use crate::world::{worlds, Cut, Record, World};
+use device::{Device, Division, Faults, Region, Rng, Width, Wire};
 use std::fs;
 use worgesli::{Backend, Driver, Error, Folder, NameList, Options, Outcome, Phase, Sink, State};
 
-fn two_regions(backend: Backend) -> World {
-    let regions = vec![Region::new("A.BIN", 7, 9000), Region::new("B.BIN", 1 << 20, 4608), Region::new("C.BIN", 5, 0)];
-    World { memory: Memory::new(2, 1 << 40, &regions), regions, names: vec![], backend }
+fn two_regions(width: Width, backend: Backend) -> World {
+    World::new(width, backend, &[Region::new("A.BIN", 7, 9000), Region::new("B.BIN", 1 << 20, 4608), Region::new("C.BIN", 5, 0)])
+}
+
+/// On both backends of both boards.
+fn all_of_two_regions() -> impl Iterator<Item = World> {
+    Width::with_both([Backend::Serial, Backend::Usb]).map(|(backend, width)| two_regions(width, backend))
+}
+
+/// Where the table's and the regions' bytes stand in all that the device says.
+fn bytes_of(w: &World) -> std::ops::Range<u64> {
+    w.opening()..w.opening() + w.memory.table_len() + 9000 + 4608
 }
 
 /// Goes on, resyncing where the device is silent; gives how often that was.
@@ -26,17 +35,15 @@ fn run_on(run: &mut Driver, wire: &mut Wire, sink: &mut impl Sink) -> (Outcome, 
 /// Any byte of the table or a region is lost on the way: the run times out, and behind a resync every byte is the memory's.
 #[test]
 fn a_byte_is_lost() {
-    let opening = 48 + 24;
-    for backend in [Backend::Serial, Backend::Usb] {
-        let w = two_regions(backend);
-        for at in (opening..opening + 192 + 9000 + 4608).step_by(13) {
+    for w in all_of_two_regions() {
+        for at in bytes_of(&w).step_by(13) {
             let faults = Faults { loses: Some(at), ..Faults::default() };
             let mut wire = Wire::new(Device::dump(w.memory.clone()), Division::Random, at).with(faults);
             let mut sink = Cut(Record::default(), [0, 2000, 65_536][at as usize % 3]);
             let mut run = w.options().start().unwrap();
             let (end, times) = run_on(&mut run, &mut wire, &mut sink);
-            assert_eq!((end, times), (Outcome::Dumped { reads: w.memory_reads() + 1 }, 1), "byte {at}");
-            assert!(sink.0 .0 == w.kept(), "byte {at}");
+            assert_eq!((end, times), (Outcome::Dumped { reads: w.memory_reads() + 1 }, 1), "byte {at}, {w:?}");
+            assert!(sink.0 .0 == w.kept(), "byte {at}, {w:?}");
             assert_eq!((wire.device.wrong(), wire.device.queued()), (None, 0));
         }
     }
@@ -46,8 +53,7 @@ fn a_byte_is_lost() {
 #[test]
 fn an_older_run() {
     let mut rng = Rng::new(4);
-    for seed in 0..1500 {
-        let w = world(seed);
+    for (seed, w) in worlds(0..1500) {
         let mut wire = Wire::new(Device::dump(w.memory.clone()), Division::Random, seed);
         let mut sink = Cut(Record::default(), [0, 3000, 65_536][seed as usize % 3]);
         let mut run = w.options().start().unwrap();
@@ -73,17 +79,18 @@ fn an_older_run() {
         }
         let (end, _) = run_on(&mut run, &mut wire, &mut sink);
         assert!(matches!(end, Outcome::Dumped { .. }));
-        assert!(sink.0 .0 == w.kept(), "seed {seed}");
-        assert_eq!((wire.device.wrong(), wire.device.queued()), (None, 0), "seed {seed}");
+        assert!(sink.0 .0 == w.kept(), "seed {seed}, {w:?}");
+        assert_eq!((wire.device.wrong(), wire.device.queued()), (None, 0), "seed {seed}, {w:?}");
     }
 }
 
 /// The same with files: whatever the older run finds, what is called whole is the memory's.
 #[test]
 fn an_older_run_into_files() {
-    let w = two_regions(Backend::Usb);
-    let options = w.options();
-    for (first, then) in [(6, 3), (8, 15), (12, 1), (12, 20), (14, 9), (22, 12), (34, 4)] {
+    let saves = [(6, 3), (8, 15), (12, 1), (12, 20), (14, 9), (22, 12), (34, 4)];
+    for ((first, then), width) in Width::with_both(saves) {
+        let w = two_regions(width, Backend::Usb);
+        let options = w.options();
         let t = Temporary::new();
         let mut wire = Wire::new(Device::dump(w.memory.clone()), Division::AtMost(700), 1);
         let (mut run, mut sink) = (options.start().unwrap(), Folder::new(t.0.join("dump")).unwrap());
@@ -113,11 +120,11 @@ fn an_older_run_into_files() {
 /// A byte is lost while a region's file is open: it is cut back, and comes out whole under its own name.
 #[test]
 fn a_byte_is_lost_into_files() {
-    let w = two_regions(Backend::Usb);
-    let opening = 48 + 24 + 192;
-    for at in [0, 1, 700, 4095, 4096, 5000, 8999, 9000, 9512, 13_607] {
+    let lost = [0, 1, 700, 4095, 4096, 5000, 8999, 9000, 9512, 13_607];
+    for (at, width) in Width::with_both(lost) {
+        let w = two_regions(width, Backend::Usb);
         let t = Temporary::new();
-        let faults = Faults { loses: Some(opening + at), ..Faults::default() };
+        let faults = Faults { loses: Some(w.opening() + w.memory.table_len() + at), ..Faults::default() };
         let mut wire = Wire::new(Device::dump(w.memory.clone()), Division::AtMost(700), at).with(faults);
         let (mut run, mut sink) = (w.options().start().unwrap(), Folder::new(t.0.join("dump")).unwrap());
         assert_eq!(run_on(&mut run, &mut wire, &mut sink).1, 1, "byte {at}");
@@ -136,46 +143,51 @@ fn a_byte_is_lost_into_files() {
 /// The table is there as soon as it came, no longer than it is; names chosen by it hold from then on. Outside a dump a resync does nothing.
 #[test]
 fn names_chosen_by_the_table() {
-    let w = two_regions(Backend::Serial);
-    let mut wire = Wire::new(Device::dump(w.memory.clone()), Division::Random, 3);
-    let mut sink = Record::default();
-    let mut run: Driver = w.options().start().unwrap();
-    assert_eq!(run.table(), []);
-    run.resync(&mut wire, &mut sink).unwrap();
-    while run.session().phase() != Phase::Between {
-        assert!(run.table().len() < 192);
-        run.step(&mut wire, &mut sink, |_| ()).unwrap();
+    for width in Width::BOTH {
+        let w = two_regions(width, Backend::Serial);
+        let mut wire = Wire::new(Device::dump(w.memory.clone()), Division::Random, 3);
+        let mut sink = Record::default();
+        let mut run: Driver = w.options().start().unwrap();
+        assert_eq!(run.table(), []);
+        run.resync(&mut wire, &mut sink).unwrap();
+        while run.session().phase() != Phase::Between {
+            assert!(run.table().len() < w.memory.table().len());
+            run.step(&mut wire, &mut sink, |_| ()).unwrap();
+        }
+        assert_eq!(run.table(), w.memory.table());
+        assert_eq!(run.entries().map(|e| e.base).collect::<Vec<_>>(), [7, 1 << 20, 5]);
+        let names = NameList::new(&["b"]).unwrap();
+        run.set_names(names.clone());
+        let options = Options::new(Backend::Serial, worgesli::Mode::MemoryDebug).name_list(names);
+        let mut run = options.restore(&run.save()).unwrap();
+        assert_eq!(run.run(&mut wire, &mut sink, |_| ()).unwrap(), Outcome::Dumped { reads: 3 });
+        assert_eq!(sink.0, w.kept()[1..2]);
+        assert_eq!(run.table(), w.memory.table());
+        let again = options.restore(&run.save()).unwrap();
+        assert_eq!((again.table(), again.entries().count()), (run.table(), 3));
     }
-    assert_eq!(run.table(), w.memory.bytes(1 << 40, 192));
-    assert_eq!(run.entries().map(|e| e.base).collect::<Vec<_>>(), [7, 1 << 20, 5]);
-    let names = NameList::new(&["b"]).unwrap();
-    run.set_names(names.clone());
-    let options = Options::new(Backend::Serial, worgesli::Mode::MemoryDebug).name_list(names);
-    let mut run = options.restore(&run.save()).unwrap();
-    assert_eq!(run.run(&mut wire, &mut sink, |_| ()).unwrap(), Outcome::Dumped { reads: 3 });
-    assert_eq!(sink.0, w.kept()[1..2]);
-    assert_eq!(run.table().len(), 192);
-    assert_eq!(options.restore(&run.save()).unwrap().table(), run.table());
 }
 
 /// Of a table that did not come whole, what came is there and no more: while it is waited for, when the run is given up, and when it is restored.
 #[test]
 fn part_of_a_table() {
-    let w = two_regions(Backend::Serial);
-    for came in 0..192 {
-        let mut wire = Wire::new(Device::dump(w.memory.clone()), Division::Random, came);
-        wire.faults.ends_after = Some(48 + 24 + came);
-        let mut sink = Record::default();
-        let options = w.options();
-        let mut run = options.start().unwrap();
-        assert!(matches!(run.run(&mut wire, &mut sink, |_| ()), Err(Error::NoBytes)));
-        let there = |run: &Driver| (run.table().to_vec(), run.entries().count());
-        let wanted = (w.memory.bytes(1 << 40, came as usize), came as usize / 64);
-        assert_eq!(there(&run), wanted);
-        assert_eq!(there(&options.restore(&run.save()).unwrap()), wanted);
-        assert_eq!(run.close(&mut sink).unwrap().number(), 23);
-        assert_eq!(there(&run), wanted);
-        assert_eq!(there(&options.restore(&run.save()).unwrap()), wanted);
+    for (width, size) in [(Width::Bits32, 52), (Width::Bits64, 64)] {
+        let w = two_regions(width, Backend::Serial);
+        for came in 0..3 * size {
+            let mut wire = Wire::new(Device::dump(w.memory.clone()), Division::Random, came as u64);
+            wire.faults.ends_after = Some(w.opening() + came as u64);
+            let mut sink = Record::default();
+            let options = w.options();
+            let mut run = options.start().unwrap();
+            assert!(matches!(run.run(&mut wire, &mut sink, |_| ()), Err(Error::NoBytes)));
+            let there = |run: &Driver| (run.table().to_vec(), run.entries().count());
+            let wanted = (w.memory.table()[..came].to_vec(), came / size);
+            assert_eq!(there(&run), wanted);
+            assert_eq!(there(&options.restore(&run.save()).unwrap()), wanted);
+            assert_eq!(run.close(&mut sink).unwrap().number(), 23);
+            assert_eq!(there(&run), wanted);
+            assert_eq!(there(&options.restore(&run.save()).unwrap()), wanted);
+        }
     }
 }
 
@@ -208,10 +220,10 @@ impl std::io::Write for Pauses {
 /// A device that only pauses, for longer than was waited: its late bytes come behind the memory read that is made again, and are not taken for its answer.
 #[test]
 fn late_bytes() {
-    let opening = 48 + 24;
-    for (backend, timeouts) in [(Backend::Serial, 0), (Backend::Usb, 0), (Backend::Serial, 2)] {
-        let w = two_regions(backend);
-        for at in (opening..opening + 192 + 9000 + 4608).step_by(61) {
+    let hosts = [(Backend::Serial, 0), (Backend::Usb, 0), (Backend::Serial, 2)];
+    for ((backend, timeouts), width) in Width::with_both(hosts) {
+        let w = two_regions(width, backend);
+        for at in bytes_of(&w).step_by(61) {
             // the pause outlasts the run and the hearing out
             let wire = Wire::new(Device::dump(w.memory.clone()), Division::Random, at);
             let mut channel = Pauses(wire, at, 2 * (timeouts + 1));
@@ -252,16 +264,18 @@ fn a_device_that_babbles() {
             self.0.flush()
         }
     }
-    let w = two_regions(Backend::Serial);
-    let mut channel = Babble(Wire::new(Device::dump(w.memory.clone()), Division::Whole, 3), false);
-    let (mut run, mut sink) = (w.options().start().unwrap(), Cut(Record::default(), 0));
-    while run.session().phase() != Phase::Region {
-        run.step(&mut channel, &mut sink, |_| ()).unwrap();
+    for width in Width::BOTH {
+        let w = two_regions(width, Backend::Serial);
+        let mut channel = Babble(Wire::new(Device::dump(w.memory.clone()), Division::Whole, 3), false);
+        let (mut run, mut sink) = (w.options().start().unwrap(), Cut(Record::default(), 0));
+        while run.session().phase() != Phase::Region {
+            run.step(&mut channel, &mut sink, |_| ()).unwrap();
+        }
+        channel.1 = true;
+        assert!(matches!(run.resync(&mut channel, &mut sink), Err(Error::Channel(_))));
+        channel.1 = false;
+        run.resync(&mut channel, &mut sink).unwrap();
+        run.run(&mut channel, &mut sink, |_| ()).unwrap();
+        assert!(sink.0 .0 == w.kept());
     }
-    channel.1 = true;
-    assert!(matches!(run.resync(&mut channel, &mut sink), Err(Error::Channel(_))));
-    channel.1 = false;
-    run.resync(&mut channel, &mut sink).unwrap();
-    run.run(&mut channel, &mut sink, |_| ()).unwrap();
-    assert!(sink.0 .0 == w.kept());
 }

@@ -1,6 +1,6 @@
 //! Runs that are written to bytes and read back, and regions that are lost.
-use crate::world::{world, Record};
-use device::{Device, Division, Faults, Memory, Region, Rng, Wire};
+use crate::world::{worlds, Kept, Record, World};
+use device::{Device, Division, Faults, Memory, Region, Rng, Turn, Width, Wire};
 use std::io::{self, ErrorKind};
 use worgesli::{Backend, Command, Count, Driver, Entry, Error, Mode, Options, Outcome, RestoreError, Sink, Unkept};
 
@@ -28,8 +28,7 @@ impl<S: Sink> Sink for Gathering<S> {
 /// A step at a time, each in a driver of its own that knows nothing but the bytes of the one before: in dumps, with time-outs and short writes.
 #[test]
 fn saved_behind_every_step() {
-    for seed in 0..400 {
-        let w = world(seed);
+    for (seed, w) in worlds(0..400) {
         let faults = Faults { timed_out: 100, would_block: 50, short_writes: true, buffered: false, ..Faults::default() };
         let mut wire = Wire::new(Device::dump(w.memory.clone()), Division::Random, seed).with(faults);
         let mut sink = Gathering(Record::default(), [0, 700, 65_536][seed as usize % 3]);
@@ -43,7 +42,7 @@ fn saved_behind_every_step() {
             run = w.options().restore(&run.save()).unwrap();
         };
         assert_eq!(end, Outcome::Dumped { reads: w.memory_reads() });
-        assert_eq!(sink.0 .0, w.kept(), "seed {seed}");
+        assert_eq!(sink.0 .0, w.kept(), "seed {seed}, {w:?}");
         assert_eq!((wire.device.wrong(), wire.device.queued()), (None, 0));
     }
 }
@@ -73,9 +72,9 @@ fn saved_images_and_replies() {
     }
 }
 
-fn midway() -> (Options, Driver) {
-    let regions = [Region::new("A.BIN", 7, 9000)];
-    let mut wire = Wire::new(Device::dump(Memory::new(2, 1 << 40, &regions)), Division::AtMost(1000), 1);
+fn midway(width: Width) -> (Options, Driver) {
+    let w = World::new(width, Backend::Usb, &[Region::new("A.BIN", 7, 9000)]);
+    let mut wire = Wire::new(Device::dump(w.memory), Division::AtMost(1000), 1);
     let options = Options::new(Backend::Usb, Mode::MemoryDebug).names(["a"]);
     let mut run = options.start().unwrap();
     let mut sink = Gathering(Record::default(), 2500);
@@ -88,30 +87,61 @@ fn midway() -> (Options, Driver) {
 /// Bytes that are not all of a saved run are not taken for one, and a run goes on only with what it was started with.
 #[test]
 fn damaged_and_foreign_bytes() {
-    let (options, run) = midway();
-    let saved = run.save();
-    assert_eq!(options.restore(&saved).unwrap().save(), saved);
-    for i in 0..saved.len() {
-        let mut other = saved.clone();
-        other[i] ^= 1 << (i % 8);
-        assert_eq!(options.restore(&other).unwrap_err(), RestoreError::Damaged, "byte {i}");
-        assert_eq!(options.restore(&saved[..i]).unwrap_err(), RestoreError::Damaged, "{i} bytes");
+    for width in Width::BOTH {
+        let (options, run) = midway(width);
+        let saved = run.save();
+        assert_eq!(options.restore(&saved).unwrap().save(), saved);
+        for i in 0..saved.len() {
+            let mut other = saved.clone();
+            other[i] ^= 1 << (i % 8);
+            assert_eq!(options.restore(&other).unwrap_err(), RestoreError::Damaged, "byte {i}");
+            assert_eq!(options.restore(&saved[..i]).unwrap_err(), RestoreError::Damaged, "{i} bytes");
+        }
+        assert_eq!(options.restore(&[saved.clone(), vec![0]].concat()).unwrap_err(), RestoreError::Damaged);
+        for (backend, mode) in [(Backend::Serial, Mode::MemoryDebug), (Backend::Usb, Mode::ImageTransferComplete)] {
+            let other = Options::new(backend, mode).names(["a"]);
+            assert_eq!(other.restore(&saved).unwrap_err(), RestoreError::OtherOpening);
+        }
+        assert_eq!(options.clone().names(["b"]).restore(&saved).unwrap_err(), RestoreError::OtherBundles);
+        assert_eq!(options.clone().images(&[None]).restore(&saved).unwrap_err(), RestoreError::OtherBundles);
+        let too_many = vec![None; 65];
+        assert!(matches!(options.images(&too_many).restore(&saved), Err(RestoreError::Refused(why)) if why.number() == 1));
     }
-    assert_eq!(options.restore(&[saved.clone(), vec![0]].concat()).unwrap_err(), RestoreError::Damaged);
-    for (backend, mode) in [(Backend::Serial, Mode::MemoryDebug), (Backend::Usb, Mode::ImageTransferComplete)] {
-        let other = Options::new(backend, mode).names(["a"]);
-        assert_eq!(other.restore(&saved).unwrap_err(), RestoreError::OtherOpening);
-    }
-    assert_eq!(options.clone().names(["b"]).restore(&saved).unwrap_err(), RestoreError::OtherBundles);
-    assert_eq!(options.clone().images(&[None]).restore(&saved).unwrap_err(), RestoreError::OtherBundles);
-    let too_many = vec![None; 65];
-    assert!(matches!(options.images(&too_many).restore(&saved), Err(RestoreError::Refused(why)) if why.number() == 1));
+}
+
+/// A run of the crate before, which knew devices of 64 bits alone, saved when 200 bytes of a region had come and 150 were the sink's: it goes on to
+/// its end, and is saved in the form of today.
+#[test]
+fn saved_in_the_form_before() {
+    let digits: String = include_str!("form-1.hex").split_whitespace().collect();
+    let saved: Vec<u8> = (0..digits.len()).step_by(2).map(|i| u8::from_str_radix(&digits[i..i + 2], 16).unwrap()).collect();
+    let base = 1 << 32;
+    let regions = vec![Region::new("A.BIN", 7, 5000), Region::new("B.BIN", base, 5000)];
+    let table = regions.iter().flat_map(|r| r.bytes(Width::Bits64)).collect();
+    let w = World { memory: Memory::mixed(2, 1 << 40, table), regions, names: vec!["b".into()], backend: Backend::Usb };
+    let mut run = w.options().restore(&saved).unwrap();
+    assert_eq!((run.session().width(), run.session().raw().done), (worgesli::Width::Bits64, 200));
+    // the form's number, and the width behind twelve other numbers of the session
+    let (mut now, again) = (saved.clone(), run.save());
+    now[8] = 2;
+    let at = 8 + 8 + 32 + 12 * 8;
+    now.splice(at..at, 64u64.to_le_bytes());
+    let end = now.len() - 32;
+    assert_eq!((again.len(), &again[..end]), (now.len(), &now[..end]));
+    assert_eq!(w.options().restore(&again).unwrap().save(), again);
+    let kept = Kept { place: 1, filename: w.regions[1].filename, bytes: w.memory.bytes(base, 150), closed: false };
+    let mut sink = Record(vec![kept]);
+    let rest = w.memory.bytes(base + 200, 4096 - 200);
+    let mut wire = Wire::new(Device::new(w.memory.clone(), vec![Turn::Say(rest)]), Division::Random, 1);
+    assert_eq!(run.run(&mut wire, &mut sink, |_| ()).unwrap(), Outcome::Dumped { reads: 3 });
+    assert_eq!(sink.0, w.kept());
+    assert_eq!((wire.device.wrong(), wire.device.reads(), wire.device.queued()), (None, 1, 0));
 }
 
 /// A sink that cannot go on with a region of another process says so each time; nothing is lost by it.
 #[test]
 fn a_sink_without_reopen() {
-    let (options, run) = midway();
+    let (options, run) = midway(Width::Bits32);
     let mut run = options.restore(&run.save()).unwrap();
     let mut nothing = Wire::new(Device::new(Memory::empty(), vec![]), Division::Whole, 1);
     for _ in 0..3 {
@@ -154,8 +184,7 @@ impl Sink for Loses {
 /// A region whose sync failed is told, never passed over, and fetched again by the next call; its reads are counted.
 #[test]
 fn lost_at_the_close() {
-    for seed in 0..300 {
-        let w = world(seed);
+    for (seed, w) in worlds(0..300) {
         let mut wire = Wire::new(Device::dump(w.memory.clone()), Division::Random, seed);
         let mut sink = Loses(Record::default(), 3, 0);
         let mut run = w.options().start().unwrap();
@@ -172,7 +201,7 @@ fn lost_at_the_close() {
         let kept = w.kept();
         let again = kept.first().map_or(0, |r| 3 * (r.bytes.len() as u64).div_ceil(4096));
         assert_eq!((end, told), (Outcome::Dumped { reads: w.memory_reads() + again }, if kept.is_empty() { 0 } else { 3 }));
-        assert_eq!(sink.0 .0, kept, "seed {seed}");
+        assert_eq!(sink.0 .0, kept, "seed {seed}, {w:?}");
         assert_eq!((wire.device.wrong(), wire.device.reads()), (None, w.memory_reads() + again));
     }
 }
@@ -180,28 +209,24 @@ fn lost_at_the_close() {
 /// A region that another process began and that is not there any more is fetched again behind its end: the rest of a chunk is still the device's.
 #[test]
 fn lost_at_the_reopening() {
-    for stop in 6..60 {
-        let regions = [Region::new("A.BIN", 7, 9000), Region::new("B.BIN", 1 << 20, 100)];
-        let w = crate::world::World {
-            memory: Memory::new(2, 1 << 40, &regions),
-            regions: regions.to_vec(),
-            names: vec![],
-            backend: Backend::Usb,
-        };
-        let mut wire = Wire::new(Device::dump(w.memory.clone()), Division::AtMost(1000), 1);
-        let mut sink = Loses(Record::default(), 0, 1);
-        let mut run = w.options().start().unwrap();
-        let ended = (0..stop).any(|_| run.step(&mut wire, &mut sink, |_| ()).unwrap().is_some());
-        if ended {
-            return;
+    for width in Width::BOTH {
+        let w = World::new(width, Backend::Usb, &[Region::new("A.BIN", 7, 9000), Region::new("B.BIN", 1 << 20, 100)]);
+        for stop in 6..60 {
+            let mut wire = Wire::new(Device::dump(w.memory.clone()), Division::AtMost(1000), 1);
+            let mut sink = Loses(Record::default(), 0, 1);
+            let mut run = w.options().start().unwrap();
+            let ended = (0..stop).any(|_| run.step(&mut wire, &mut sink, |_| ()).unwrap().is_some());
+            if ended {
+                break;
+            }
+            let mut run = w.options().restore(&run.save()).unwrap();
+            let end = match run.run(&mut wire, &mut sink, |_| ()) {
+                Err(Error::Sink(_)) => run.run(&mut wire, &mut sink, |_| ()),
+                end => end,
+            };
+            assert!(matches!(end, Ok(Outcome::Dumped { .. })), "{end:?}");
+            assert_eq!(sink.0 .0, w.kept(), "behind {stop} steps, {w:?}");
+            assert_eq!((wire.device.wrong(), wire.device.queued()), (None, 0));
         }
-        let mut run = w.options().restore(&run.save()).unwrap();
-        let end = match run.run(&mut wire, &mut sink, |_| ()) {
-            Err(Error::Sink(_)) => run.run(&mut wire, &mut sink, |_| ()),
-            end => end,
-        };
-        assert!(matches!(end, Ok(Outcome::Dumped { .. })), "{end:?}");
-        assert_eq!(sink.0 .0, w.kept(), "behind {stop} steps");
-        assert_eq!((wire.device.wrong(), wire.device.queued()), (None, 0));
     }
 }

@@ -1,7 +1,7 @@
 //! Single steps in guarded buffers: what they report, in order, and which bytes they change.
 use crate::guard::{Guarded, Side};
-use crate::world::{world, World};
-use device::{Device, Rng};
+use crate::world::{worlds, World};
+use device::{Device, Rng, Width};
 use worgesli::{raw, Answer, Backend, ImageSet, Mode, NameList, Phase, Session};
 
 #[derive(Clone, Debug, PartialEq, Eq)]
@@ -14,21 +14,24 @@ enum Report {
     Finished(u8, u64),
 }
 
-fn mem_read64(at: u64, len: u64) -> Report {
-    Report::Sent(device::packet64(0x11, &[at, len]))
+fn mem_read(w: &World, at: u64, len: u64) -> Report {
+    Report::Sent(match w.width() {
+        Width::Bits32 => device::packet(0x0a, &[at.try_into().unwrap(), len.try_into().unwrap()]),
+        Width::Bits64 => device::packet64(0x11, &[at, len]),
+    })
 }
 
 /// What a host does that never sees a division.
 fn plain(w: &World) -> Vec<Report> {
     let hello = device::packet(2, &[2, 1, 0, 2, 0, 0, 0, 0, 0, 0]);
-    let mut all = vec![Report::Sent(hello), mem_read64(w.memory.table_at(), w.memory.table_len())];
+    let mut all = vec![Report::Sent(hello), mem_read(w, w.memory.table_at(), w.memory.table_len())];
     for place in w.selected() {
         let r = &w.regions[place];
         all.push(Report::Open(place));
         let mut done = 0;
         while done < r.len {
             let n = (r.len - done).min(4096);
-            all.push(mem_read64(r.base + done, n));
+            all.push(mem_read(w, r.base + done, n));
             all.push(Report::Bytes(w.memory.bytes(r.base + done, n as usize)));
             if w.backend == Backend::Usb && n.is_multiple_of(512) {
                 all.push(Report::EmptyRead);
@@ -156,13 +159,12 @@ fn run(w: &World, seed: u64, side: Side) -> (Vec<Report>, u64) {
 /// For any division and with refused steps between, the reports are those of the plain host, after no more steps than document 01 counts.
 #[test]
 fn reports_of_the_plain_host() {
-    for seed in 0..1500 {
-        let w = world(seed);
+    for (seed, w) in worlds(0..1500) {
         let side = if seed % 2 == 0 { Side::Behind } else { Side::Before };
         let (reports, steps) = run(&w, seed, side);
-        assert_eq!(reports, plain(&w), "seed {seed}");
-        let bytes = 72 + w.memory.table_len() + w.chunks().iter().sum::<u64>();
-        assert!(steps <= bytes + 2 * w.selected().len() as u64 + 2 * w.memory_reads(), "seed {seed}: {steps}");
+        assert_eq!(reports, plain(&w), "seed {seed}, {w:?}");
+        let bytes = w.opening() + w.memory.table_len() + w.chunks().iter().sum::<u64>();
+        assert!(steps <= bytes + 2 * w.selected().len() as u64 + 2 * w.memory_reads(), "seed {seed}, {w:?}: {steps}");
     }
 }
 
@@ -205,5 +207,11 @@ fn kept_as_numbers() {
     assert_eq!(Session::from_raw(*s.raw()), Some(s));
     assert_eq!(Session::from_raw(raw::Session { phase: 7, ..*s.raw() }), None);
     assert_eq!(Session::from_raw(raw::Session { mode: 4, ..*s.raw() }), None);
+    for width in [0, 31, 33, 63, 65, 1 << 32 | 32, u64::MAX] {
+        assert_eq!(Session::from_raw(raw::Session { width, ..*s.raw() }), None);
+    }
+    assert_eq!((s.width(), s.raw().width), (worgesli::Width::Bits64, 64));
+    let narrow = Session::from_raw(raw::Session { width: 32, ..*s.raw() }).unwrap();
+    assert_eq!((narrow.width(), narrow == s), (worgesli::Width::Bits32, false));
     assert_eq!((s.wanted(), s.reads(), s.phase(), s.reply_len()), (8, 0, Phase::Packet, 0));
 }

@@ -1,6 +1,7 @@
-//! Devices with memory at random, what a fetch from them must give, and a sink that keeps it.
-use device::{Memory, Region, Rng};
-use std::io;
+//! Devices of both widths with memory at random, what a fetch from them must give, and a sink that keeps it.
+use device::{Memory, Region, Rng, Width};
+use std::ops::Range;
+use std::{fmt, io};
 use worgesli::{Backend, Entry, Mode, Options, Sink, Unkept};
 
 /// A region as it came out: its place, its entry's filename, its bytes, and whether it was closed.
@@ -81,8 +82,21 @@ pub struct World {
 
 const STEMS: [&str; 6] = ["DDRCS0_0", "OCIMEM", "CODERAM", "load", "PMIC_PON", "RST_STAT"];
 
+/// The worlds of these seeds, with a board of each width.
+pub fn worlds(seeds: Range<u64>) -> impl Iterator<Item = (u64, World)> {
+    Width::with_both(seeds).map(|(seed, width)| (seed, world(seed, width)))
+}
+
+/// A device's width as the host names it.
+pub fn host_width(width: Width) -> worgesli::Width {
+    match width {
+        Width::Bits32 => worgesli::Width::Bits32,
+        Width::Bits64 => worgesli::Width::Bits64,
+    }
+}
+
 /// Up to 6 regions, some of the same filename, some not preferred; lengths around chunks and blocks; with or without names.
-pub fn world(seed: u64) -> World {
+pub fn world(seed: u64, width: Width) -> World {
     let mut rng = Rng::new(seed);
     let mut regions = Vec::new();
     for _ in 0..rng.below(7) {
@@ -94,9 +108,9 @@ pub fn world(seed: u64) -> World {
             _ => rng.below(12_000),
         };
         let base = match rng.below(4) {
-            0 => 0u64.wrapping_sub(len.max(1)), // up to the last address
+            0 => width.end_less(len.max(1)), // up to the last address
             1 => rng.below(1 << 20),
-            _ => rng.number() >> 1,
+            _ => rng.number() % width.half(),
         };
         let region = Region::new(format!("{stem}.BIN"), base, len);
         regions.push(if rng.chance(300) { region.unpreferred() } else { region });
@@ -106,14 +120,36 @@ pub fn world(seed: u64) -> World {
         _ => Vec::new(),
     };
     // a table may end in part of an entry
-    let mut table: Vec<u8> = regions.iter().flat_map(Region::bytes).collect();
-    table.resize(table.len() + rng.below(2) as usize * rng.below(64) as usize, 0xa5);
-    let memory = Memory::with_table(seed, rng.number(), table);
+    let mut table: Vec<u8> = regions.iter().flat_map(|r| r.bytes(width)).collect();
+    table.resize(table.len() + rng.below(2) as usize * rng.below(width.entry_len() as u64) as usize, 0xa5);
+    // and beyond the last address
+    let table_at = if rng.chance(200) { width.end_less(1 + rng.below(100)) } else { rng.number() % width.half() };
+    let memory = Memory::with_table(seed, table_at, table).wide(width);
     let backend = if rng.chance(512) { Backend::Usb } else { Backend::Serial };
     World { memory, regions, names, backend }
 }
 
+impl fmt::Debug for World {
+    fn fmt(&self, f: &mut fmt::Formatter<'_>) -> fmt::Result {
+        write!(f, "{:?}, {:?}, {} regions, names {:?}", self.width(), self.backend, self.regions.len(), self.names)
+    }
+}
+
 impl World {
+    /// A device with these regions, of which it prefers all.
+    pub fn new(width: Width, backend: Backend, regions: &[Region]) -> World {
+        World { memory: Memory::of(width, 5, width.half(), regions), regions: regions.to_vec(), names: vec![], backend }
+    }
+
+    pub fn width(&self) -> Width {
+        self.memory.width()
+    }
+
+    /// The bytes before the table: a hello and the memory debug.
+    pub fn opening(&self) -> u64 {
+        48 + self.width().packet_len() as u64
+    }
+
     /// A dump of the regions that are asked for.
     pub fn options(&self) -> Options {
         Options::new(self.backend, Mode::MemoryDebug).names(&self.names)

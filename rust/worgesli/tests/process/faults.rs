@@ -1,5 +1,6 @@
 //! Each system call of a fetch fails in turn.
 use crate::world::{Far, Temporary};
+use device::Width;
 use std::path::{Path, PathBuf};
 use std::process::Command;
 
@@ -27,8 +28,8 @@ fn shim(folder: &Path) -> Option<PathBuf> {
 }
 
 /// What becomes of a fetch whose k-th system call fails, once or with all behind it. False where it makes no k-th call.
-fn fails(library: &Path, k: u64, number: i32, forever: bool) -> bool {
-    let (far, folder) = (Far::new(k), Temporary::new());
+fn fails(library: &Path, width: Width, k: u64, number: i32, forever: bool) -> bool {
+    let (far, folder) = (Far::new(width, k), Temporary::new());
     let mark = folder.0.join("mark");
     let settings = [
         ("LD_PRELOAD", library.display().to_string()),
@@ -37,7 +38,7 @@ fn fails(library: &Path, k: u64, number: i32, forever: bool) -> bool {
         ("FAULT_FOREVER", u8::from(forever).to_string()),
         ("FAULT_MARK", mark.display().to_string()),
     ];
-    let what = format!("call {k}, error {number}, forever {forever}");
+    let what = format!("{width:?}, call {k}, error {number}, forever {forever}");
     let ended = far.process(&folder.0, &settings);
     let failed = mark.exists();
     match ended {
@@ -60,9 +61,10 @@ fn fails(library: &Path, k: u64, number: i32, forever: bool) -> bool {
 fn each_system_call_fails() {
     let folder = Temporary::new();
     let Some(library) = shim(&folder.0) else { return };
-    for (number, forever) in [(EIO, false), (ENOSPC, false), (EINTR, false), (EAGAIN, false), (EIO, true), (ENOSPC, true)] {
+    let faults = [(EIO, false), (ENOSPC, false), (EINTR, false), (EAGAIN, false), (EIO, true), (ENOSPC, true)];
+    for ((number, forever), width) in Width::with_both(faults) {
         let mut k = 0;
-        while fails(&library, k, number, forever) {
+        while fails(&library, width, k, number, forever) {
             k += 1;
         }
         assert!(k > 40, "{k} calls");

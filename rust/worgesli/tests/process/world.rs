@@ -1,5 +1,5 @@
 //! A device behind a socket, the processes that fetch from it, and what they must leave.
-use device::{Device, Memory, Region};
+use device::{Device, Memory, Region, Width};
 use std::fs;
 use std::os::fd::OwnedFd;
 use std::os::unix::net::UnixStream;
@@ -49,8 +49,8 @@ pub struct Far {
 }
 
 impl Far {
-    pub fn new(seed: u64) -> Far {
-        let memory = Memory::new(seed, 1 << 40, &regions());
+    pub fn new(width: Width, seed: u64) -> Far {
+        let memory = Memory::of(width, seed, width.half(), &regions());
         let (near, far) = UnixStream::pair().unwrap();
         let device = Device::dump(memory.clone());
         let thread = std::thread::spawn(move || device::serve(device, far, seed).unwrap());
