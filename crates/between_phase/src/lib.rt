@@ -1,4 +1,5 @@
 // The phase between the regions of a dump: the next selected entry is opened, or the dump is over.
+use entry::entries_in;
 use entry::entry_at;
 use filename::NameCheck;
 use filename::check_open;
@@ -16,6 +17,7 @@ ghost use mathlib.Core.Path.{_≡_};
 ghost use mathlib.Core.Bool.{true};
 ghost use Prim.Native.Nat.{_≤_};
 ghost use lib.ListN.{length};
+ghost use Rattle.field.specs.Field.{fieldSize};
 ghost use Rattle.entry.specs.Entry.{entryOf, filenameOf, there};
 ghost use Rattle.filename.specs.Filename.{openCheck};
 ghost use Rattle.base.specs.Told.{Tells};
@@ -26,10 +28,12 @@ ghost use Rattle.session.specs.Guard.{betweenStep};
 
 // Entry i of the table is opened by its name: 19, 20.
 fn open_region(s: Session, k: usize, i: usize, table: &[u8]) -> Stepped
-    requires { ⌜ there 8 (now table) i ≡ true ⌝ }
-    ensures { λ r. ⌜ r ≡ openOf 8 s k i (entryOf 8 (now (table .entry)) i) (openCheck (filenameOf 8 (entryOf 8 (now (table .entry)) i))) ⌝ }
+    requires { ⌜ there (fieldSize (s .width)) (now table) i ≡ true ⌝ }
+    ensures { λ r. ⌜ r ≡ openOf (fieldSize (s .width)) s k i (entryOf (fieldSize (s .width)) (now (table .entry)) i)
+        (openCheck (filenameOf (fieldSize (s .width)) (entryOf (fieldSize (s .width)) (now (table .entry)) i))) ⌝ }
 {
-    let at = entry_at(table, i);
+    let width = s.width;
+    let at = entry_at(table, width, i);
     let entry = at.entry;
     let name = entry.filename;
     let check = check_open(&name);
@@ -52,10 +56,11 @@ fn open_region(s: Session, k: usize, i: usize, table: &[u8]) -> Stepped
 // The next selected entry is opened, or the dump is over.
 fn next_region(s: Session, k: usize, from: usize, names: &[u8], table: &[u8]) -> Stepped
     requires { ⌜ k ≤ length (now table) ⌝ }
-    ensures { λ r. ⌜ r ≡ betweenOf 8 s k from (now (names .entry)) (now (table .entry)) ⌝ }
+    ensures { λ r. ⌜ r ≡ betweenOf (fieldSize (s .width)) s k from (now (names .entry)) (now (table .entry)) ⌝ }
 {
-    let entries = k / 64;
-    let i = next_selected(table, entries, names, from);
+    let width = s.width;
+    let entries = entries_in(width, k);
+    let i = next_selected(table, width, entries, names, from);
     if entries <= i {
         return moved(s, Phase::Ended(0), 0, Answer::Finished(3, s.reads));
     }
@@ -75,7 +80,8 @@ pub fn between_step(
     ensures { λ r. ⌜ Tells outcomeTold (outcome r (now (table .entry)) (now (reply .entry)) (now (out .entry)))
         (betweenStep s k i (now (names .entry)) (now (table .entry)) (now (reply .entry)) (now (out .entry))) ⌝ }
 {
-    let why = guard(s, between_limit(k, i, table), out);
+    let width = s.width;
+    let why = guard(s, between_limit(width, k, i, table), out);
     if why != 0 {
         return untouched(s, why);
     }

@@ -1,7 +1,7 @@
 -- Laws of the packets that are built: their sizes, the front of the out buffer, the two outcomes of a build. Assumes nothing.
 use mathlib.Core.Path.{_≡_, refl, sym, ap, _∙_}
 use mathlib.Core.List.{List, _++_}
-use Prim.Native.Nat.{ℕ, _<_, _≤_}
+use Prim.Native.Nat.{ℕ, _%_, _^_, _<_, _≤_}
 use native.Mathlib.Omega.{arith}
 use borrow.Author.Tests.{lt-ltb, le-ltb}
 use lib.ListN.{length, take, drop, length-append, length-drop}
@@ -10,6 +10,8 @@ use Rattle.base.specs.Told.{Tells}
 use Rattle.base.proofs.Lists.{sets-front}
 use Rattle.base.proofs.Telling.{tells}
 use Rattle.field.specs.Field.{leBytes}
+use Rattle.field.proofs.Laws.{leBytes-mod}
+use Rattle.field.specs.declared.Width.the-variants as WI
 use Rattle.build.specs.Build.{fields, bytesOf, sizeOf, front, buildOutcome, buildTold, buildOf}
 use Rattle.build.specs.declared.Request.{Request}
 use Rattle.build.specs.declared.Request.the-variants as Q
@@ -24,7 +26,8 @@ length-bytes (Q.Execute c) = refl
 length-bytes (Q.ExecuteData c) = refl
 length-bytes Q.SwitchMode = refl
 length-bytes Q.Reset = refl
-length-bytes (Q.MemRead64 a k) = refl
+length-bytes (Q.MemRead WI.Bits32 a k) = refl
+length-bytes (Q.MemRead WI.Bits64 a k) = refl
 
 -- no packet is longer than 48 bytes
 pub size-most : (q : Request) → sizeOf q ≤ 48
@@ -34,7 +37,8 @@ size-most (Q.Execute c) = omega arith
 size-most (Q.ExecuteData c) = omega arith
 size-most Q.SwitchMode = omega arith
 size-most Q.Reset = omega arith
-size-most (Q.MemRead64 a k) = omega arith
+size-most (Q.MemRead WI.Bits32 a k) = omega arith
+size-most (Q.MemRead WI.Bits64 a k) = omega arith
 
 -- the bytes to be sent are the packet's
 pub take-front : (q : Request) (o : List ℕ) → take (sizeOf q) (front q o) ≡ bytesOf q
@@ -60,6 +64,15 @@ build-short q o h = simp (lt-ltb _ _ h)
 pub build-long : (q : Request) (o : List ℕ) → 48 ≤ length o → buildOf q o ≡ buildOutcome (T.Send (sizeOf q)) (front q o)
 unfolding buildOf
 build-long q o h = simp (le-ltb _ _ h)
+
+-- a memory read of 32 bits holds what is left of its numbers modulo 2^32
+pub narrowed : (a k : ℕ) → bytesOf (Q.MemRead WI.Bits32 (a % 256 ^ 4) (k % 256 ^ 4)) ≡ bytesOf (Q.MemRead WI.Bits32 a k)
+unfolding bytesOf fields
+narrowed a k = rw (leBytes-mod 4 a, leBytes-mod 4 k) refl
+
+pub build-narrowed : (a k : ℕ) (o : List ℕ) → buildOf (Q.MemRead WI.Bits32 (a % 256 ^ 4) (k % 256 ^ 4)) o ≡ buildOf (Q.MemRead WI.Bits32 a k) o
+unfolding buildOf
+build-narrowed a k o = rw (narrowed a k) refl
 
 -- so a build promises 3 where it is short, and a packet stored at 0 is what it leaves
 pub refuses : (q : Request) (o : List ℕ) → length o < 48 → Tells buildTold (buildOutcome (T.Refused 3) o) (buildOf q o)

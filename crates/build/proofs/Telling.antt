@@ -7,6 +7,7 @@ use lib.ListN.{getD}
 use Rattle.base.specs.Choice.{pick}
 use Rattle.base.specs.Told.{Told}
 use Rattle.base.proofs.Telling.{apart}
+use Rattle.field.specs.declared.Width.the-variants as WI
 use Rattle.command.specs.Command.{modeOf, commandOf}
 use Rattle.command.proofs.Laws.{modeIs, commandIs, mode-again, command-again}
 use Rattle.build.specs.Build.{requestNumber, requestValues, builtTold}
@@ -22,7 +23,8 @@ requestFrom n vs =
     (pick (eqb n 5) Q.Done
     (pick (eqb n 0x0d) (Q.Execute (commandIs (commandOf (getD vs 0 0))))
     (pick (eqb n 0x0f) (Q.ExecuteData (commandIs (commandOf (getD vs 0 0))))
-    (pick (eqb n 0x0c) Q.SwitchMode (pick (eqb n 7) Q.Reset (Q.MemRead64 (getD vs 0 0) (getD vs 1 0)))))))
+    (pick (eqb n 0x0c) Q.SwitchMode
+    (pick (eqb n 7) Q.Reset (Q.MemRead (pick (eqb n 0x0a) WI.Bits32 WI.Bits64) (getD vs 0 0) (getD vs 1 0)))))))
 
 pub request-back : (q : Request) → requestFrom (requestNumber q) (requestValues q) ≡ q
 request-back (Q.HelloResp m) = ap Q.HelloResp (mode-again m)
@@ -31,7 +33,8 @@ request-back (Q.Execute c) = ap Q.Execute (command-again c)
 request-back (Q.ExecuteData c) = ap Q.ExecuteData (command-again c)
 request-back Q.SwitchMode = refl
 request-back Q.Reset = refl
-request-back (Q.MemRead64 a k) = refl
+request-back (Q.MemRead WI.Bits32 a k) = refl
+request-back (Q.MemRead WI.Bits64 a k) = refl
 
 abbrev builtFrom : Told → Built
 builtFrom t = pick (eqb (t .number) 1) (T.Send (getD (t .values) 0 0)) (T.Refused (getD (t .values) 0 0))

@@ -1,22 +1,25 @@
 -- Building of the packets that the host sends. Document 01, "Building": "HelloResp: length 48, version 2, compatible 1, status 0, the session's mode,
 -- zeros. Done 8 bytes; Execute 0x0d, ExecuteData and SwitchMode 0x0c (mode 0) 12 each; Reset 8; MemRead64 24." Refusals, "Build": 3 out buffer below
--- 48 bytes. "Only named bytes of a lent buffer change."
+-- 48 bytes. "Only named bytes of a lent buffer change." Document 02, request 2: "MemRead (0x0a) .. an address and a length of 4 bytes", 16 bytes.
 use Prim.Native.Nat.{ℕ, _+_}
 use mathlib.Core.List.{List, [], _∷_, _++_}
 use lib.Dec.{ltb}
 use lib.ListN.{length, drop}
 use Rattle.base.specs.Choice.{pick}
 use Rattle.base.specs.Told.{Told, toldSend, toldRefused}
-use Rattle.field.specs.Field.{leBytes}
+use Rattle.field.specs.Field.{leBytes, fieldSize}
+use Rattle.field.specs.declared.Width.{Width}
+use Rattle.field.specs.declared.Width.the-variants as WI
 use Rattle.command.specs.Command.{modeNumber, commandNumber, kindNumber}
 use Rattle.command.specs.declared.SaharaMode.the-variants as M
+use Rattle.command.specs.declared.SaharaCmd.{SaharaCmd}
 use Rattle.command.specs.declared.SaharaCmd.the-variants as K
 use Rattle.build.specs.declared.Request.{Request}
 use Rattle.build.specs.declared.Request.the-variants as Q
 use Rattle.build.specs.declared.Built.{Built}
 use Rattle.build.specs.declared.Built.the-variants as T
 
--- fields of w bytes one after the other; words of 4 bytes, longs of 8
+-- fields of w bytes one after the other; words of 4 bytes
 unfoldable pub fields : ℕ → List ℕ → List ℕ
 fields w [] = []
 fields w (v ∷ vs) = leBytes w v ++ fields w vs
@@ -24,12 +27,14 @@ fields w (v ∷ vs) = leBytes w v ++ fields w vs
 abbrev pub words : List ℕ → List ℕ
 words = fields 4
 
-abbrev pub longs : List ℕ → List ℕ
-longs = fields 8
-
 -- a packet: its command, its whole length, its body
 abbrev pub packetBytes : ℕ → List ℕ → List ℕ
 packetBytes cmd body = words (cmd ∷ (8 + length body) ∷ []) ++ body
+
+-- a memory read of either width: MemRead for an old board, else MemRead64
+abbrev pub readKind : Width → SaharaCmd
+readKind WI.Bits32 = K.MemRead
+readKind WI.Bits64 = K.MemRead64
 
 -- the command of each packet; 7, 0x0c and 0x0d are numbers of no decoded kind: Reset, SwitchMode, Execute
 abbrev pub requestNumber : Request → ℕ
@@ -39,7 +44,7 @@ requestNumber (Q.Execute c) = 0x0d
 requestNumber (Q.ExecuteData c) = kindNumber K.ExecuteData
 requestNumber Q.SwitchMode = 0x0c
 requestNumber Q.Reset = 7
-requestNumber (Q.MemRead64 a k) = kindNumber K.MemRead64
+requestNumber (Q.MemRead v a k) = kindNumber (readKind v)
 
 -- the values that a request chooses: a mode, a command, an address and a length
 abbrev pub requestValues : Request → List ℕ
@@ -49,7 +54,7 @@ requestValues (Q.Execute c) = commandNumber c ∷ []
 requestValues (Q.ExecuteData c) = commandNumber c ∷ []
 requestValues Q.SwitchMode = []
 requestValues Q.Reset = []
-requestValues (Q.MemRead64 a k) = a ∷ k ∷ []
+requestValues (Q.MemRead v a k) = a ∷ k ∷ []
 
 -- the body of each packet
 abbrev pub bodyBytes : Request → List ℕ
@@ -59,7 +64,7 @@ bodyBytes (Q.Execute c) = words (commandNumber c ∷ [])
 bodyBytes (Q.ExecuteData c) = words (commandNumber c ∷ [])
 bodyBytes Q.SwitchMode = words (modeNumber M.WaitingForImage ∷ [])
 bodyBytes Q.Reset = []
-bodyBytes (Q.MemRead64 a k) = longs (a ∷ k ∷ [])
+bodyBytes (Q.MemRead v a k) = fields (fieldSize v) (a ∷ k ∷ [])
 
 -- the bytes of each packet
 unfoldable pub bytesOf : Request → List ℕ
@@ -73,7 +78,8 @@ sizeOf (Q.Execute c) = 12
 sizeOf (Q.ExecuteData c) = 12
 sizeOf Q.SwitchMode = 12
 sizeOf Q.Reset = 8
-sizeOf (Q.MemRead64 a k) = 24
+sizeOf (Q.MemRead WI.Bits32 a k) = 16
+sizeOf (Q.MemRead WI.Bits64 a k) = 24
 
 -- a build's whole outcome: the answer, and the out buffer afterwards
 pub record BuildOutcome : Type 0 where

@@ -5,6 +5,7 @@ use command::SaharaMode;
 use command::command_number;
 use command::kind_number;
 use command::mode_number;
+use field::Width;
 use field::put_u32;
 use field::put_u64;
 ghost use mathlib.Core.Path.{_≡_};
@@ -24,7 +25,8 @@ pub enum Request {
     ExecuteData(SaharaCmdModeCmd),
     SwitchMode,
     Reset,
-    MemRead64(u64, u64),
+    // address and length
+    MemRead(Width, u64, u64),
 }
 
 // How many bytes of the out buffer are to be sent, or the refusal.
@@ -161,9 +163,22 @@ pub fn sahara_reset(out: &mut [u8]) -> Built
     Built::Send(8)
 }
 
+// MemRead, 16 bytes.
+fn mem_read32(out: &mut [u8], addr: u32, len: u32) -> Built
+    ensures { λ r. ⌜ Tells buildTold (buildOutcome r (now (out .exit))) (buildOf (Request.MemRead Width.Bits32 addr len) (now (out .entry))) ⌝ }
+{
+    if out.len() < LEAST {
+        return Built::Refused(3);
+    }
+    sahara_send_generic(out, kind_number(SaharaCmd::MemRead), 16);
+    word(out, 8, addr);
+    word(out, 12, len);
+    Built::Send(16)
+}
+
 // MemRead64, 24 bytes.
-pub fn sahara_send_mem_read64(out: &mut [u8], addr: u64, len: u64) -> Built
-    ensures { λ r. ⌜ Tells buildTold (buildOutcome r (now (out .exit))) (buildOf (Request.MemRead64 addr len) (now (out .entry))) ⌝ }
+fn mem_read64(out: &mut [u8], addr: u64, len: u64) -> Built
+    ensures { λ r. ⌜ Tells buildTold (buildOutcome r (now (out .exit))) (buildOf (Request.MemRead Width.Bits64 addr len) (now (out .entry))) ⌝ }
 {
     if out.len() < LEAST {
         return Built::Refused(3);
@@ -172,6 +187,16 @@ pub fn sahara_send_mem_read64(out: &mut [u8], addr: u64, len: u64) -> Built
     long(out, 8, addr);
     long(out, 16, len);
     Built::Send(24)
+}
+
+// A memory read of either width. Of 32 bits what passes 2^32 of an address or a length is dropped: no session sends such a one.
+pub fn sahara_send_mem_read(out: &mut [u8], width: Width, addr: u64, len: u64) -> Built
+    ensures { λ r. ⌜ Tells buildTold (buildOutcome r (now (out .exit))) (buildOf (Request.MemRead width addr len) (now (out .entry))) ⌝ }
+{
+    match width {
+        Width::Bits32 => mem_read32(out, (addr % 4294967296) as u32, (len % 4294967296) as u32),
+        Width::Bits64 => mem_read64(out, addr, len),
+    }
 }
 
 // The packet of a request.
@@ -185,6 +210,6 @@ pub fn build(out: &mut [u8], request: Request) -> Built
         Request::ExecuteData(command) => sahara_send_cmd_data(out, command),
         Request::SwitchMode => sahara_switch_mode(out),
         Request::Reset => sahara_reset(out),
-        Request::MemRead64(addr, len) => sahara_send_mem_read64(out, addr, len),
+        Request::MemRead(width, addr, len) => sahara_send_mem_read(out, width, addr, len),
     }
 }

@@ -1,5 +1,6 @@
 -- Numbers of modes, commands and packet kinds, and the class of a command number. Document 01, Records, "Packet", and "Decoding": every command
--- number falls into one of four classes: decoded, XML (0x6d783f3c), known but unimplemented (7, 9, 0x0a, 0x0c, 0x0d, 0x13, 0x14), unknown.
+-- number falls into one of four classes: decoded, XML (0x6d783f3c), known but unimplemented (7, 9, 0x0a, 0x0c, 0x0d, 0x13, 0x14), unknown; of these 9 and 0x0a are
+-- decoded since document 02, request 2: "Both leave class 8."
 use Prim.Native.Nat.{ℕ}
 use mathlib.Core.Bool.{Bool, true, false}
 use mathlib.Core.List.{List, [], _∷_}
@@ -32,7 +33,7 @@ commandNumber E.ReadSerialNum = 1
 commandNumber E.ReadHwId = 2
 commandNumber E.ReadOemKeyHash = 3
 
--- "one of thirteen kinds": the number of each
+-- "one of thirteen kinds", and "MemDebug (9) and .. MemRead (0x0a)" (document 02, request 2): the number of each
 abbrev pub kindNumber : SaharaCmd → ℕ
 kindNumber K.Hello = 1
 kindNumber K.HelloResp = 2
@@ -41,6 +42,8 @@ kindNumber K.EndOfImage = 4
 kindNumber K.Done = 5
 kindNumber K.DoneResp = 6
 kindNumber K.ResetResp = 8
+kindNumber K.MemDebug = 9
+kindNumber K.MemRead = 0x0a
 kindNumber K.CommandReady = 0x0b
 kindNumber K.ExecuteResp = 0x0e
 kindNumber K.ExecuteData = 0x0f
@@ -48,7 +51,7 @@ kindNumber K.MemDebug64 = 0x10
 kindNumber K.MemRead64 = 0x11
 kindNumber K.ReadData64 = 0x12
 
--- and its least body bytes
+-- and its least body bytes; of MemDebug and MemRead "an address and a length of 4 bytes"
 abbrev pub leastBody : SaharaCmd → ℕ
 leastBody K.Hello = 40
 leastBody K.HelloResp = 40
@@ -57,6 +60,8 @@ leastBody K.EndOfImage = 8
 leastBody K.Done = 0
 leastBody K.DoneResp = 4
 leastBody K.ResetResp = 0
+leastBody K.MemDebug = 8
+leastBody K.MemRead = 8
 leastBody K.CommandReady = 0
 leastBody K.ExecuteResp = 8
 leastBody K.ExecuteData = 4
@@ -79,7 +84,7 @@ commandOf n =
     (pick (eqb n (commandNumber E.ReadHwId)) (CO.Is E.ReadHwId)
     (pick (eqb n (commandNumber E.ReadOemKeyHash)) (CO.Is E.ReadOemKeyHash) CO.Bad)))
 
--- the thirteen kinds, the XML mark, and the known but unimplemented numbers
+-- the fifteen kinds, the XML mark, and the known but unimplemented numbers
 unfoldable pub kinds : List SaharaCmd
 kinds =
     K.Hello
@@ -89,6 +94,8 @@ kinds =
     ∷ K.Done
     ∷ K.DoneResp
     ∷ K.ResetResp
+    ∷ K.MemDebug
+    ∷ K.MemRead
     ∷ K.CommandReady
     ∷ K.ExecuteResp
     ∷ K.ExecuteData
@@ -101,7 +108,7 @@ abbrev pub xml : ℕ
 xml = 0x6d783f3c
 
 unfoldable pub unimplemented : List ℕ
-unimplemented = 7 ∷ 9 ∷ 0x0a ∷ 0x0c ∷ 0x0d ∷ 0x13 ∷ 0x14 ∷ []
+unimplemented = 7 ∷ 0x0c ∷ 0x0d ∷ 0x13 ∷ 0x14 ∷ []
 
 -- the kind of a list that a number is, else another class
 abbrev pub kindAmong : ℕ → List SaharaCmd → Class → Class

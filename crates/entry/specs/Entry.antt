@@ -1,5 +1,6 @@
 -- Entries of the memory table. Document 01, Records, "Table entry": 64 bytes: preference, base, length (8 each), description and filename (20 each).
--- The width f of the three numbers is a parameter of each definition: 8 here, so that an entry has 64 bytes.
+-- Document 02, request 2: "Their table entries are 52 bytes: preference, base and length in 4 bytes each, then the two 20-byte texts." The width f of the three
+-- numbers, 8 or 4 (`fieldSize` of field/specs/Field), is a parameter of each definition.
 use Prim.Native.Nat.{ℕ, _+_, _*_}
 use mathlib.Core.Bool.{Bool, true, false}
 use mathlib.Core.List.{List}

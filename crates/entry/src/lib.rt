@@ -1,10 +1,15 @@
-// Entries of the memory table, decoded from its bytes.
+// Entries of the memory table of either width, decoded from its bytes.
+use field::Width;
+use field::field_size;
+use field::u32_padded;
 use field::u64_padded;
 ghost use mathlib.Core.Path.{_≡_};
-ghost use Prim.Native.Nat.{_+_, _≤_};
+ghost use Prim.Native.Nat.{_+_, _/_, _≤_};
 ghost use lib.ListN.{length, take, drop};
-ghost use Rattle.entry.specs.Entry.{decoded, nothing, entryAt};
+ghost use Rattle.field.specs.Field.{le, fieldSize};
+ghost use Rattle.entry.specs.Entry.{entrySize, decoded, nothing, entryAt};
 
+// An entry; the numbers of 32 bits are widened.
 pub struct RamdumpTable64 {
     pub save_pref: u64,
     pub base: u64,
@@ -17,6 +22,36 @@ pub struct RamdumpTable64 {
 pub struct EntryAt {
     pub there: bool,
     pub entry: RamdumpTable64,
+}
+
+// The bytes of an entry.
+fn entry_size(width: Width) -> usize
+    ensures { λ r. ⌜ r ≡ entrySize (fieldSize width) ⌝ }
+{
+    match width {
+        Width::Bits32 => 52,
+        Width::Bits64 => 64,
+    }
+}
+
+// How many entries a table of k bytes has; a remainder is none.
+pub fn entries_in(width: Width, k: usize) -> usize
+    ensures { λ r. ⌜ r ≡ k / entrySize (fieldSize width) ⌝ }
+{
+    match width {
+        Width::Bits32 => k / 52,
+        Width::Bits64 => k / 64,
+    }
+}
+
+// The number at a place; a byte that is not there is 0.
+fn number_at(table: &[u8], width: Width, at: usize) -> u64
+    ensures { λ r. ⌜ r ≡ le (fieldSize width) (drop at (now (table .entry))) ⌝ }
+{
+    match width {
+        Width::Bits32 => u32_padded(table, at) as u64,
+        Width::Bits64 => u64_padded(table, at),
+    }
 }
 
 // The text of 20 bytes at a place.
@@ -33,16 +68,17 @@ fn text_at(table: &[u8], at: usize) -> [u8; 20]
     text
 }
 
-// The entry of 64 bytes at a place.
-fn decode(table: &[u8], at: usize) -> RamdumpTable64
-    requires { ⌜ at + 64 ≤ length (now table) ⌝ }
-    ensures { λ r. ⌜ r ≡ decoded 8 (take 64 (drop at (now (table .entry)))) ⌝ }
+// The entry at a place.
+fn decode(table: &[u8], width: Width, at: usize) -> RamdumpTable64
+    requires { ⌜ at + entrySize (fieldSize width) ≤ length (now table) ⌝ }
+    ensures { λ r. ⌜ r ≡ decoded (fieldSize width) (take (entrySize (fieldSize width)) (drop at (now (table .entry)))) ⌝ }
 {
-    let save_pref = u64_padded(table, at);
-    let base = u64_padded(table, at + 8);
-    let len = u64_padded(table, at + 16);
-    let description = text_at(table, at + 24);
-    let filename = text_at(table, at + 44);
+    let f = field_size(width);
+    let save_pref = number_at(table, width, at);
+    let base = number_at(table, width, at + f);
+    let len = number_at(table, width, at + 2 * f);
+    let description = text_at(table, at + 3 * f);
+    let filename = text_at(table, at + 3 * f + 20);
     RamdumpTable64 {
         save_pref,
         base,
@@ -66,16 +102,16 @@ fn zeros() -> RamdumpTable64
 }
 
 // Entry i of a table, where it lies whole within it.
-pub fn entry_at(table: &[u8], i: usize) -> EntryAt
-    ensures { λ r. ⌜ r ≡ entryAt 8 (now (table .entry)) i ⌝ }
+pub fn entry_at(table: &[u8], width: Width, i: usize) -> EntryAt
+    ensures { λ r. ⌜ r ≡ entryAt (fieldSize width) (now (table .entry)) i ⌝ }
 {
-    if table.len() / 64 <= i {
+    if entries_in(width, table.len()) <= i {
         let entry = zeros();
         return EntryAt {
             there: false,
             entry,
         };
     }
-    let entry = decode(table, 64 * i);
+    let entry = decode(table, width, entry_size(width) * i);
     EntryAt { there: true, entry }
 }

@@ -8,14 +8,17 @@ use mathlib.Core.List.{List, [], _∷_, _++_, map}
 use lib.Dec.{eqb, T}
 use lib.ListN.{length, take, drop}
 use Rattle.base.specs.Choice.{pick}
-use Rattle.packet.specs.Packet.{long}
+use Rattle.field.specs.Field.{fieldSize}
+use Rattle.field.specs.declared.Width.{Width}
+use Rattle.field.specs.declared.Width.the-variants as WI
+use Rattle.packet.specs.Packet.{addressIn, lengthIn}
 use Rattle.verdict.specs.declared.Opening.{Opening}
 use Rattle.session.specs.declared.Session.{Session}
 use Rattle.session.specs.declared.Answer.{Answer}
 use Rattle.session.specs.declared.Answer.the-variants as A
 use Rattle.session.specs.Outcome.{Outcome, openedWith}
 use Rattle.session.specs.Step.{stepOf}
-use Rattle.fetch.specs.Plain.{Report, sent, image, opened, byte, emptyRead, closed, finished, isRead, bytesAt, Setting}
+use Rattle.fetch.specs.Plain.{Report, sent, image, opened, byte, emptyRead, closed, finished, readsAs, bytesAt, Setting}
 
 -- ---- a host
 
@@ -96,9 +99,12 @@ abbrev pub left : Delivery → ℕ → List ℕ → List ℕ
 left (first k) taken q = drop taken q
 left (another d) taken q = q
 
--- what the device queues when a packet is sent: the memory's bytes, where it is a memory read
+-- what the device queues when a packet is sent: the memory's bytes, where it is a memory read, by the address and the length in it
+abbrev pub servedAs : (ℕ → ℕ) → List ℕ → Width → List ℕ → List ℕ
+servedAs mem p v other = pick (readsAs v p) (bytesAt mem (addressIn (fieldSize v) p) (lengthIn (fieldSize v) p)) other
+
 unfoldable pub served : (ℕ → ℕ) → List ℕ → List ℕ
-served mem p = pick (isRead p) (bytesAt mem (long p 0) (long p 1)) []
+served mem p = servedAs mem p WI.Bits32 (servedAs mem p WI.Bits64 [])
 
 abbrev pub queued : (ℕ → ℕ) → Answer → List ℕ → List ℕ
 queued mem A.Go o = []

@@ -19,6 +19,7 @@ use Rattle.fetch.specs.Plain.{
   isRead,
   bytesAt,
   Debug,
+  fieldIn,
   tableIn,
   selectedIn,
   Setting,
@@ -60,13 +61,14 @@ regionsIn f mem t (i ∷ is) =
 
 -- one memory read for the table and one a chunk of the selected regions
 abbrev pub readsOf : Setting → Debug → ℕ
-readsOf c dbg = 1 + regionReads 8 (c .opening) (tableIn (c .mem) dbg) (selectedIn 8 (c .mem) (c .names) dbg)
+readsOf c dbg = 1 + regionReads (fieldIn dbg) (c .opening) (tableIn (c .mem) dbg) (selectedIn (c .mem) (c .names) dbg)
 
 -- a report of a device whose table a memory debug told
 pub record Meant (c : Setting) (dbg : Debug) (l : List Report) : Type 0 where
   -- besides packets, image bytes and empty reads, it is the selected regions in table order, byte for byte, and the end: finished (3), with the memory
   -- reads
   pub shows :
-      shown l ≡ regionsIn 8 (c .mem) (tableIn (c .mem) dbg) (selectedIn 8 (c .mem) (c .names) dbg) ++ (finished 3 (readsOf c dbg) ∷ [])
+      shown l
+      ≡ regionsIn (fieldIn dbg) (c .mem) (tableIn (c .mem) dbg) (selectedIn (c .mem) (c .names) dbg) ++ (finished 3 (readsOf c dbg) ∷ [])
   -- and so many were sent
   pub reads : readsIn l ≡ readsOf c dbg

@@ -6,6 +6,7 @@ use mathlib.Core.Bool.{Bool, true, false, _&&_}
 use mathlib.Core.List.{List}
 use lib.Dec.{ltb}
 use Rattle.base.specs.Choice.{pick}
+use Rattle.field.specs.Field.{fieldSize}
 use Rattle.entry.specs.Entry.{entryOf, filenameOf}
 use Rattle.selection.specs.Selection.{same, selectedAt}
 use Rattle.session.specs.declared.Region.{Region}
@@ -70,25 +71,25 @@ thrifty = amiss (λ names t r. afterBytes (λ x. region (x .entry) (x .base) (x 
 
 -- ---- merges two regions of one filename: the later one is not opened, and its bytes come as if they were of the one before
 
--- one of the first k entries is selected and has the filename of entry i
-unfoldable pub namedBefore : List ℕ → List ℕ → ℕ → ℕ → Bool
-namedBefore names t zero i = false
-namedBefore names t (suc k) i =
-    pick (selectedAt 8 names t k && same (filenameOf 8 (entryOf 8 t k)) (filenameOf 8 (entryOf 8 t i))) true (namedBefore names t k i)
+-- one of the first k entries is selected and has the filename of entry i; f is the width of an entry's numbers
+unfoldable pub namedBefore : ℕ → List ℕ → List ℕ → ℕ → ℕ → Bool
+namedBefore f names t zero i = false
+namedBefore f names t (suc k) i =
+    pick (selectedAt f names t k && same (filenameOf f (entryOf f t k)) (filenameOf f (entryOf f t i))) true (namedBefore f names t k i)
 
-abbrev pub unlessNamed : List ℕ → List ℕ → Answer → Answer
-unlessNamed names t A.Go = A.Go
-unlessNamed names t (A.Send k) = A.Send k
-unlessNamed names t (A.Image x k) = A.Image x k
-unlessNamed names t (A.Open i) = pick (namedBefore names t i i) A.Go (A.Open i)
-unlessNamed names t (A.Bytes k) = A.Bytes k
-unlessNamed names t A.EmptyRead = A.EmptyRead
-unlessNamed names t (A.Close i) = A.Close i
-unlessNamed names t (A.Finished how n) = A.Finished how n
-unlessNamed names t (A.Refused why) = A.Refused why
+abbrev pub unlessNamed : ℕ → List ℕ → List ℕ → Answer → Answer
+unlessNamed f names t A.Go = A.Go
+unlessNamed f names t (A.Send k) = A.Send k
+unlessNamed f names t (A.Image x k) = A.Image x k
+unlessNamed f names t (A.Open i) = pick (namedBefore f names t i i) A.Go (A.Open i)
+unlessNamed f names t (A.Bytes k) = A.Bytes k
+unlessNamed f names t A.EmptyRead = A.EmptyRead
+unlessNamed f names t (A.Close i) = A.Close i
+unlessNamed f names t (A.Finished how n) = A.Finished how n
+unlessNamed f names t (A.Refused why) = A.Refused why
 
 abbrev pub merging : Host
-merging = amiss (λ names t r. answering (unlessNamed names t (r .answer)) r)
+merging = amiss (λ names t r. answering (unlessNamed (fieldSize (r .state .width)) names t (r .answer)) r)
 
 -- ---- only says go, whatever it is lent, and takes nothing: its report is empty, which is a beginning of any report, and never the whole
 

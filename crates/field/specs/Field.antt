@@ -13,6 +13,8 @@ use Rattle.field.specs.declared.Field8.{Field8}
 use Rattle.field.specs.declared.Field8.the-variants as F8
 use Rattle.field.specs.declared.Put.{Put}
 use Rattle.field.specs.declared.Put.the-variants as P
+use Rattle.field.specs.declared.Width.{Width}
+use Rattle.field.specs.declared.Width.the-variants as WI
 
 -- the number that the first w bytes of a list write, the least first; a byte that is not there is 0
 unfoldable pub le : ℕ → List ℕ → ℕ
@@ -47,3 +49,11 @@ written p d = record { put = p; bytes = d }
 -- v written into w bytes at a place; nothing changes where they do not lie within
 unfoldable pub putAt : ℕ → List ℕ → ℕ → ℕ → Written
 putAt w d at v = pick (leb (at + w) (length d)) (written P.Done (sets d at (leBytes w v))) (written P.Short d)
+
+-- ---- memory debug of 64 bits, and of 32: document 02, request 2: "MemDebug (9) and .. MemRead (0x0a), each an address and a length of 4 bytes. Their table
+-- entries are 52 bytes: preference, base and length in 4 bytes each"
+
+-- the bytes of an address, a length, a preference or a base
+abbrev pub fieldSize : Width → ℕ
+fieldSize WI.Bits32 = 4
+fieldSize WI.Bits64 = 8

@@ -1,9 +1,10 @@
-// Little-endian fields of 4 and 8 bytes, read and written anywhere in a slice. A field that does not fit is an answer, or is read with zeros.
+// Little-endian fields of 4 and 8 bytes, read and written anywhere in a slice. A field that does not fit is an answer, or is read with zeros. The width of a
+// memory debug's numbers.
 ghost use mathlib.Core.Path.{_≡_};
 ghost use Prim.Native.Nat.{_+_, _*_, _≤_};
 ghost use lib.ListN.{length, drop, getD};
 ghost use lib.Seq.{sets};
-ghost use Rattle.field.specs.Field.{le, leBytes, field4, field8, written, putAt};
+ghost use Rattle.field.specs.Field.{le, leBytes, field4, field8, written, putAt, fieldSize};
 
 pub enum Field4 {
     Is(u32),
@@ -18,6 +19,12 @@ pub enum Field8 {
 pub enum Put {
     Done,
     Short,
+}
+
+// The width of a memory debug's numbers.
+pub enum Width {
+    Bits32,
+    Bits64,
 }
 
 // Four bytes as a number, the least first.
@@ -161,4 +168,14 @@ pub fn put_u64(d: &mut [u8], at: usize, v: u64) -> Put
     }
     set8(d, at, v);
     Put::Done
+}
+
+// The bytes of a number of this width.
+pub fn field_size(width: Width) -> usize
+    ensures { λ r. ⌜ r ≡ fieldSize width ⌝ }
+{
+    match width {
+        Width::Bits32 => 4,
+        Width::Bits64 => 8,
+    }
 }

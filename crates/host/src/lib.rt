@@ -4,6 +4,7 @@ use bundle::Checked;
 use bundle::check_images;
 use bundle::check_names;
 use command::SaharaMode;
+use field::Width;
 use filling_phase::response_step;
 use filling_phase::switched_step;
 use filling_phase::table_step;
@@ -36,6 +37,7 @@ pub fn open(mode: SaharaMode, command: ExecCommand, backend: QdlBackend) -> Sess
             backend: backend,
         },
         reads: 0,
+        width: Width::Bits64,
         window: [0u8; 48],
         phase: Phase::Packet(0),
     }

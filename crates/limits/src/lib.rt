@@ -1,4 +1,6 @@
 // The limits of a session's counts: refusal 18. Sums are of mathematical integers: none is formed that could wrap.
+use entry::entries_in;
+use field::Width;
 use field::u32_padded;
 use packet::LengthCheck;
 use packet::sahara_read_packet_length;
@@ -9,6 +11,7 @@ ghost use mathlib.Core.Bool.{_||_};
 ghost use Prim.Native.Nat.{_+_, _^_};
 ghost use lib.Dec.{ltb};
 ghost use lib.ListN.{length};
+ghost use Rattle.field.specs.Field.{fieldSize};
 ghost use Rattle.packet.specs.Packet.{lengthField};
 ghost use Rattle.session.specs.BetweenPhase.{entriesIn};
 ghost use Rattle.session.specs.Limits.{heldLimit, fillingLimit, regionLimit};
@@ -62,23 +65,42 @@ pub fn filling_limit(x: Filling, buffer: &[u8]) -> bool
 }
 
 // A table buffer shorter than the table's length k, or an entry to go on from above its entries.
-pub fn between_limit(k: usize, i: usize, table: &[u8]) -> bool
-    ensures { λ r. ⌜ r ≡ (ltb (length (now (table .entry))) k || ltb (entriesIn 8 k) i) ⌝ }
+pub fn between_limit(width: Width, k: usize, i: usize, table: &[u8]) -> bool
+    ensures { λ r. ⌜ r ≡ (ltb (length (now (table .entry))) k || ltb (entriesIn (fieldSize width) k) i) ⌝ }
 {
     if shorter(table, k) {
         return true;
     }
-    k / 64 < i
+    entries_in(width, k) < i
 }
 
-// Base plus length above 2^64.
-pub fn past_memory(base: u64, len: u64) -> bool
+// Base plus length above 2^32, and above 2^64.
+fn past32(base: u64, len: u64) -> bool
+    ensures { λ r. ⌜ r ≡ ltb (256 ^ 4) (base + len) ⌝ }
+{
+    if 4294967296 < base {
+        return true;
+    }
+    4294967296 - base < len
+}
+
+fn past64(base: u64, len: u64) -> bool
     ensures { λ r. ⌜ r ≡ ltb (256 ^ 8) (base + len) ⌝ }
 {
     if len == 0 {
         return false;
     }
     18446744073709551615 - base < len - 1
+}
+
+// Base plus length above what a memory of this width has.
+pub fn past_memory(width: Width, base: u64, len: u64) -> bool
+    ensures { λ r. ⌜ r ≡ ltb (256 ^ fieldSize width) (base + len) ⌝ }
+{
+    match width {
+        Width::Bits32 => past32(base, len),
+        Width::Bits64 => past64(base, len),
+    }
 }
 
 // Bytes done plus bytes outstanding above the region's length.
@@ -92,13 +114,13 @@ fn past_region(len: u64, done: u64, outstanding: u64) -> bool
 }
 
 // A table buffer shorter than the table's length k, an entry that is not there, or a region with more than its bytes or past the memory.
-pub fn region_limit(k: usize, x: Region, table: &[u8]) -> bool
-    ensures { λ r. ⌜ r ≡ regionLimit 8 k x (now (table .entry)) ⌝ }
+pub fn region_limit(width: Width, k: usize, x: Region, table: &[u8]) -> bool
+    ensures { λ r. ⌜ r ≡ regionLimit (fieldSize width) k x (now (table .entry)) ⌝ }
 {
     if shorter(table, k) {
         return true;
     }
-    if k / 64 <= x.entry {
+    if entries_in(width, k) <= x.entry {
         return true;
     }
     if past_region(x.len, x.done, x.outstanding) {
@@ -107,5 +129,5 @@ pub fn region_limit(k: usize, x: Region, table: &[u8]) -> bool
     if x.done + x.outstanding == 0 {
         return false;
     }
-    past_memory(x.base, x.len)
+    past_memory(width, x.base, x.len)
 }

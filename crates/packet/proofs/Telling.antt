@@ -49,6 +49,8 @@ module _ (vs : List ℕ) where
   bodyFrom K.Done = B.DoneReq
   bodyFrom K.DoneResp = B.DoneResp (record { status = v0 })
   bodyFrom K.ResetResp = B.ResetResp
+  bodyFrom K.MemDebug = B.DebugReq (record { addr = v0; len = v1 })
+  bodyFrom K.MemRead = B.ReadMemReq (record { addr = v0; len = v1 })
   bodyFrom K.CommandReady = B.CommandReady
   bodyFrom K.ExecuteResp = B.ExecResp (record { command = command; len = v1 })
   bodyFrom K.ExecuteData = B.ExecData (record { command = command })
@@ -64,6 +66,8 @@ body-back (B.Eoi b) = refl
 body-back B.DoneReq = refl
 body-back (B.DoneResp b) = refl
 body-back B.ResetResp = refl
+body-back (B.DebugReq b) = refl
+body-back (B.ReadMemReq b) = refl
 body-back B.CommandReady = refl
 body-back (B.ExecResp b) = rw (command-again (b .command)) refl
 body-back (B.ExecData b) = rw (command-again (b .command)) refl

@@ -72,9 +72,15 @@ abbrev pub execDataOf : List ℕ → CommandOf → Body
 execDataOf p (CO.Is c) = Y.Is (B.ExecData (record { command = c }))
 execDataOf p CO.Bad = Y.Malformed
 
--- "Both 64-bit memory kinds: address, length (8 bytes each)."
+-- "Both 64-bit memory kinds: address, length (8 bytes each)", and of 32 bits "each an address and a length of 4 bytes" (document 02, request 2): of f bytes
+abbrev pub addressIn : ℕ → List ℕ → ℕ
+addressIn f p = le f (drop 8 p)
+
+abbrev pub lengthIn : ℕ → List ℕ → ℕ
+lengthIn f p = le f (drop (8 + f) p)
+
 abbrev pub addressLength : List ℕ → Debug64Req
-addressLength p = record { addr = long p 0; len = long p 1 }
+addressLength p = record { addr = addressIn 8 p; len = lengthIn 8 p }
 
 -- the body of each kind, its least bytes being there
 abbrev pub bodyOf : List ℕ → SaharaCmd → Body
@@ -85,11 +91,13 @@ bodyOf p K.EndOfImage = Y.Is (B.Eoi (record { image = word p 0; status = word p 
 bodyOf p K.Done = Y.Is B.DoneReq
 bodyOf p K.DoneResp = Y.Is (B.DoneResp (record { status = word p 0 }))
 bodyOf p K.ResetResp = Y.Is B.ResetResp
+bodyOf p K.MemDebug = Y.Is (B.DebugReq (record { addr = addressIn 4 p; len = lengthIn 4 p }))
+bodyOf p K.MemRead = Y.Is (B.ReadMemReq (record { addr = addressIn 4 p; len = lengthIn 4 p }))
 bodyOf p K.CommandReady = Y.Is B.CommandReady
 bodyOf p K.ExecuteResp = execRespOf p (commandOf (word p 0))
 bodyOf p K.ExecuteData = execDataOf p (commandOf (word p 0))
-bodyOf p K.MemDebug64 = Y.Is (B.Debug64Req (record { addr = long p 0; len = long p 1 }))
-bodyOf p K.MemRead64 = Y.Is (B.ReadMem64Req (record { addr = long p 0; len = long p 1 }))
+bodyOf p K.MemDebug64 = Y.Is (B.Debug64Req (record { addr = addressIn 8 p; len = lengthIn 8 p }))
+bodyOf p K.MemRead64 = Y.Is (B.ReadMem64Req (record { addr = addressIn 8 p; len = lengthIn 8 p }))
 bodyOf p K.ReadData64 = Y.Is (B.ReadData64Req (record { image = long p 0; offset = long p 1; len = long p 2 }))
 
 -- a kind's body, malformed where it is short
@@ -119,6 +127,8 @@ kindIn (B.Eoi b) = K.EndOfImage
 kindIn B.DoneReq = K.Done
 kindIn (B.DoneResp b) = K.DoneResp
 kindIn B.ResetResp = K.ResetResp
+kindIn (B.DebugReq b) = K.MemDebug
+kindIn (B.ReadMemReq b) = K.MemRead
 kindIn B.CommandReady = K.CommandReady
 kindIn (B.ExecResp b) = K.ExecuteResp
 kindIn (B.ExecData b) = K.ExecuteData

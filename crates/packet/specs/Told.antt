@@ -26,7 +26,7 @@ unkFrom vs =
 
 -- "Hello: version, compatible, greatest length, mode, six unused words. HelloResp: version, compatible, status, mode, six words. ReadData: image ID,
 -- offset, length; ReadData64 the same in 8-byte fields. EndOfImage: ID, status. DoneResp: status. ExecuteResp: command, length. ExecuteData: command. Both
--- 64-bit memory kinds: address, length (8 bytes each)."
+-- 64-bit memory kinds: address, length (8 bytes each)." MemDebug and MemRead likewise (document 02, request 2)
 abbrev pub bodyValues : SaharaPacketBody → List ℕ
 bodyValues (B.HelloReq b) = b .ver ∷ b .compatible ∷ b .«max_len» ∷ modeNumber (b .mode) ∷ unkValues (b .unk)
 bodyValues (B.HelloResp b) = b .ver ∷ b .compatible ∷ b .status ∷ modeNumber (b .mode) ∷ unkValues (b .unk)
@@ -35,6 +35,8 @@ bodyValues (B.Eoi b) = b .image ∷ b .status ∷ []
 bodyValues B.DoneReq = []
 bodyValues (B.DoneResp b) = b .status ∷ []
 bodyValues B.ResetResp = []
+bodyValues (B.DebugReq b) = b .addr ∷ b .len ∷ []
+bodyValues (B.ReadMemReq b) = b .addr ∷ b .len ∷ []
 bodyValues B.CommandReady = []
 bodyValues (B.ExecResp b) = commandNumber (b .command) ∷ b .len ∷ []
 bodyValues (B.ExecData b) = commandNumber (b .command) ∷ []

@@ -74,6 +74,16 @@ pub struct ExecData {
     pub command: SaharaCmdModeCmd,
 }
 
+pub struct DebugReq {
+    pub addr: u32,
+    pub len: u32,
+}
+
+pub struct ReadMemReq {
+    pub addr: u32,
+    pub len: u32,
+}
+
 pub struct Debug64Req {
     pub addr: u64,
     pub len: u64,
@@ -98,6 +108,8 @@ pub enum SaharaPacketBody {
     DoneReq,
     DoneResp(DoneResp),
     ResetResp,
+    DebugReq(DebugReq),
+    ReadMemReq(ReadMemReq),
     CommandReady,
     ExecResp(ExecResp),
     ExecData(ExecData),
@@ -244,7 +256,7 @@ fn read_req(p: &[u8]) -> ReadReq
     }
 }
 
-// The address and the length of either memory kind.
+// The address and the length of either memory kind of 64 bits.
 fn mem64(p: &[u8]) -> Debug64Req
     requires { ⌜ 24 ≤ length (now p) ⌝ }
     ensures { λ r. ⌜ r ≡ addressLength (now (p .entry)) ⌝ }
@@ -278,6 +290,8 @@ fn least_body(kind: SaharaCmd) -> usize
         SaharaCmd::Done => 0,
         SaharaCmd::DoneResp => 4,
         SaharaCmd::ResetResp => 0,
+        SaharaCmd::MemDebug => 8,
+        SaharaCmd::MemRead => 8,
         SaharaCmd::CommandReady => 0,
         SaharaCmd::ExecuteResp => 8,
         SaharaCmd::ExecuteData => 4,
@@ -317,6 +331,14 @@ fn body_of(p: &[u8], kind: SaharaCmd) -> Body
             }))
         }
         SaharaCmd::ReadData64 => Body::Is(SaharaPacketBody::ReadData64Req(read_data64(p))),
+        SaharaCmd::MemDebug => Body::Is(SaharaPacketBody::DebugReq(DebugReq {
+            addr: word(p, 8),
+            len: word(p, 12),
+        })),
+        SaharaCmd::MemRead => Body::Is(SaharaPacketBody::ReadMemReq(ReadMemReq {
+            addr: word(p, 8),
+            len: word(p, 12),
+        })),
     }
 }
 

@@ -3,6 +3,7 @@ use build::Built;
 use build::Request;
 use build::build;
 use copy::copy_into;
+use field::Width;
 use limits::held_limit;
 use limits::length_in;
 use packet::LengthCheck;
@@ -25,7 +26,7 @@ ghost use lib.ListN.{length};
 ghost use Rattle.build.specs.Build.{sizeOf, front};
 ghost use Rattle.base.specs.Told.{Tells};
 ghost use Rattle.session.specs.Answers.{outcomeTold};
-ghost use Rattle.session.specs.Outcome.{outcome, gives, reading, holding};
+ghost use Rattle.session.specs.Outcome.{outcome, gives, reading, holding, ofWidth};
 ghost use Rattle.session.specs.PacketPhase.{keep, acted, wholeOf, sizedOf, packetOf};
 ghost use Rattle.session.specs.Guard.{packetStep};
 
@@ -46,14 +47,15 @@ fn kept(window: [u8; 48], held: usize, x: &[u8]) -> [u8; 48]
     w
 }
 
-// The session with another count of memory reads and another window, in another phase.
-fn next(s: Session, reads: u64, w: [u8; 48], phase: Phase) -> Session
-    ensures { λ r. ⌜ r ≡ reading (holding s w phase) reads phase ⌝ }
+// The session with another count of memory reads, another width and another window, in another phase.
+fn next(s: Session, reads: u64, width: Width, w: [u8; 48], phase: Phase) -> Session
+    ensures { λ r. ⌜ r ≡ reading (ofWidth (holding s w phase) width) reads phase ⌝ }
 {
     let opening = s.opening;
     Session {
         opening: opening,
         reads: reads,
+        width: width,
         window: w,
         phase: phase,
     }
@@ -63,8 +65,9 @@ fn next(s: Session, reads: u64, w: [u8; 48], phase: Phase) -> Session
 fn holds(s: Session, held: usize, w: [u8; 48], taken: usize, answer: Answer) -> Stepped
     ensures { λ r. ⌜ r ≡ gives (holding s w (Phase.Packet held)) taken answer ⌝ }
 {
+    let width = s.width;
     Stepped {
-        session: next(s, s.reads, w, Phase::Packet(held)),
+        session: next(s, s.reads, width, w, Phase::Packet(held)),
         taken: taken,
         answer: answer,
     }
@@ -94,8 +97,9 @@ fn act(s: Session, taken: usize, w: [u8; 48], v: Verdict, out: &mut [u8]) -> Ste
     requires { ⌜ 48 ≤ length (now out) ⌝ }
     ensures { λ r. ⌜ ((t y : List ℕ) → outcome r t y (now (out .exit)) ≡ acted s taken w t y (now (out .entry)) v) ⌝ }
 {
+    let width = s.width;
     match v {
-        Verdict::Reply(q) => sent(next(s, s.reads, w, Phase::Packet(0)), taken, q, out),
+        Verdict::Reply(q) => sent(next(s, s.reads, width, w, Phase::Packet(0)), taken, q, out),
         Verdict::Image(start, k) => holds(s, 0, w, taken, Answer::Image(start, k)),
         Verdict::Pass => holds(s, 0, w, taken, Answer::Go),
         Verdict::Finish(how) => moved(s, Phase::Ended(0), taken, Answer::Finished(how, s.reads)),
@@ -105,21 +109,21 @@ fn act(s: Session, taken: usize, w: [u8; 48], v: Verdict, out: &mut [u8]) -> Ste
                 filled: 0,
             };
             sent(
-                next(s, s.reads, w, Phase::Response(response)),
+                next(s, s.reads, width, w, Phase::Response(response)),
                 taken,
                 Request::ExecuteData(command),
                 out,
             )
         }
-        Verdict::Debug(addr, len) => {
+        Verdict::Debug(came, addr, len) => {
             let table = Filling {
                 declared: len as usize,
                 filled: 0,
             };
             sent(
-                next(s, 1, w, Phase::Table(table)),
+                next(s, 1, came, w, Phase::Table(table)),
                 taken,
-                Request::MemRead64(addr, len),
+                Request::MemRead(came, addr, len),
                 out,
             )
         }

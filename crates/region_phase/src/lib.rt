@@ -1,8 +1,10 @@
 // The phase in a region of a dump: chunk by chunk it is asked for and handed out, then closed.
-use build::sahara_send_mem_read64;
+use build::Request;
+use build::sahara_send_mem_read;
 use chunk::chunk_size;
 use chunk::due_after;
 use entry::entry_at;
+use field::Width;
 use filename::NameCheck;
 use filename::check_after_open;
 use limits::past_memory;
@@ -23,12 +25,14 @@ ghost use mathlib.Core.Bool.{true, false};
 ghost use mathlib.Core.List.{List};
 ghost use Prim.Native.Nat.{ℕ, _+_, _^_, _<_, _≤_};
 ghost use lib.ListN.{length};
-ghost use Rattle.entry.specs.Entry.{entryOf, filenameOf, there};
+ghost use Rattle.field.specs.Field.{fieldSize};
+ghost use Rattle.entry.specs.Entry.{there};
 ghost use Rattle.filename.specs.Filename.{afterOpenCheck};
+ghost use Rattle.build.specs.Build.{sizeOf};
 ghost use Rattle.base.specs.Told.{Tells};
 ghost use Rattle.session.specs.Answers.{outcomeTold};
 ghost use Rattle.session.specs.Outcome.{gives, outcome};
-ghost use Rattle.session.specs.RegionPhase.{recounted, askedOf, askedOut, handedOf, countedIn, closes, begunOf};
+ghost use Rattle.session.specs.RegionPhase.{recounted, askedOf, askedOut, handedOf, countedIn, closes, pastEnd, begunOf, nameIn};
 ghost use Rattle.session.specs.Guard.{regionStep};
 ghost use Rattle.region_phase.specs.Advance.{advanced, advanceWithin, advanceOf};
 
@@ -58,20 +62,30 @@ fn recount(x: Region, done: u64, outstanding: u64, due: bool) -> Region
     }
 }
 
+// The bytes of a memory read.
+fn read_size(width: Width) -> usize
+    ensures { λ r. ⌜ ((a k : ℕ) → r ≡ sizeOf (Request.MemRead width a k)) ⌝ }
+{
+    match width {
+        Width::Bits32 => 16,
+        Width::Bits64 => 24,
+    }
+}
+
 // No bytes are outstanding and some are left: the next memory read.
-fn ask(opening: Opening, reads: u64, x: Region, out: &mut [u8]) -> Counted
-    requires { ⌜ (48 ≤ length (now out)) × (x .done < x .len) × (x .base + x .len ≤ 256 ^ 8) × (reads ≤ 2 ^ 63 + 1) ⌝ }
-    ensures { λ r. ⌜ (r ≡ askedOf opening reads x) × (now (out .exit) ≡ askedOut opening x (now (out .entry))) ⌝ }
+fn ask(width: Width, opening: Opening, reads: u64, x: Region, out: &mut [u8]) -> Counted
+    requires { ⌜ (48 ≤ length (now out)) × (x .done < x .len) × (x .base + x .len ≤ 256 ^ fieldSize width) × (reads ≤ 2 ^ 63 + 1) ⌝ }
+    ensures { λ r. ⌜ (r ≡ askedOf width opening reads x) × (now (out .exit) ≡ askedOut width opening x (now (out .entry))) ⌝ }
 {
     let most = chunk_size(opening);
     let rest = (x.len - x.done) as usize;
     let n = least(most, rest) as u64;
-    sahara_send_mem_read64(out, x.base + x.done, n);
+    let sent = sahara_send_mem_read(out, width, x.base + x.done, n);
     Counted {
         region: recount(x, x.done, n, false),
         reads: reads + 1,
         taken: 0,
-        answer: Answer::Send(24),
+        answer: Answer::Send(read_size(width)),
     }
 }
 
@@ -93,10 +107,17 @@ fn hand_out(opening: Opening, reads: u64, x: Region, came: usize) -> Counted
 }
 
 // With every count within its limit: the empty read that is due, a chunk asked for, or one handed out.
-fn advance_within(opening: Opening, reads: u64, x: Region, came: usize, out: &mut [u8]) -> Advance
+fn advance_within(
+    width: Width,
+    opening: Opening,
+    reads: u64,
+    x: Region,
+    came: usize,
+    out: &mut [u8],
+) -> Advance
     requires { ⌜ (48 ≤ length (now out)) × (reads ≤ 2 ^ 63 + 1) × (x .done + x .outstanding ≤ x .len)
-        × ((x .done ≡ 0 → ⊥) → x .base + x .len ≤ 256 ^ 8) ⌝ }
-    ensures { λ r. ⌜ advanced r (now (out .exit)) ≡ advanceWithin opening reads x came (now (out .entry)) ⌝ }
+        × ((x .done ≡ 0 → ⊥) → x .base + x .len ≤ 256 ^ fieldSize width) ⌝ }
+    ensures { λ r. ⌜ advanced r (now (out .exit)) ≡ advanceWithin width opening reads x came (now (out .entry)) ⌝ }
 {
     let due = x.due;
     if due {
@@ -114,7 +135,7 @@ fn advance_within(opening: Opening, reads: u64, x: Region, came: usize, out: &mu
         if x.len <= x.done {
             return Advance::Closes;
         }
-        return Advance::To(ask(opening, reads, x, out));
+        return Advance::To(ask(width, opening, reads, x, out));
     }
     if came == 0 {
         return Advance::Waits;
@@ -124,6 +145,7 @@ fn advance_within(opening: Opening, reads: u64, x: Region, came: usize, out: &mu
 
 // A region's step over its counts: k is the table's length, x the region, and so many bytes came.
 pub fn advance_region(
+    width: Width,
     opening: Opening,
     reads: u64,
     k: usize,
@@ -132,7 +154,7 @@ pub fn advance_region(
     table: &[u8],
     out: &mut [u8],
 ) -> Advance
-    ensures { λ r. ⌜ advanced r (now (out .exit)) ≡ advanceOf opening reads k x came (now (table .entry)) (now (out .entry)) ⌝ }
+    ensures { λ r. ⌜ advanced r (now (out .exit)) ≡ advanceOf width opening reads k x came (now (table .entry)) (now (out .entry)) ⌝ }
 {
     if out.len() < 48 {
         return Advance::Refused(3);
@@ -140,10 +162,10 @@ pub fn advance_region(
     if reads_limit(reads) {
         return Advance::Refused(18);
     }
-    if region_limit(k, x, table) {
+    if region_limit(width, k, x, table) {
         return Advance::Refused(18);
     }
-    advance_within(opening, reads, x, came, out)
+    advance_within(width, opening, reads, x, came, out)
 }
 
 // ---- put into a session
@@ -152,6 +174,7 @@ fn counted_in(s: Session, k: usize, c: Counted) -> Stepped
     ensures { λ r. ⌜ r ≡ countedIn s k c ⌝ }
 {
     let opening = s.opening;
+    let width = s.width;
     let window = s.window;
     let x = c.region;
     let answer = c.answer;
@@ -159,6 +182,7 @@ fn counted_in(s: Session, k: usize, c: Counted) -> Stepped
         session: Session {
             opening,
             reads: c.reads,
+            width,
             window,
             phase: Phase::Region(k, x),
         },
@@ -186,28 +210,39 @@ fn close(s: Session, k: usize, x: Region) -> Stepped
     moved(s, Phase::Between(k, entry + 1), 0, Answer::Close(entry))
 }
 
-// The step after open, by the entry's name, then its end: 21, 22.
-fn begin_region(s: Session, k: usize, x: Region, table: &[u8], out: &mut [u8]) -> Stepped
-    requires { ⌜ (48 ≤ length (now out)) × (there 8 (now table) (x .entry) ≡ true) × (s .reads ≤ 2 ^ 63 + 1) ⌝ }
-    ensures { λ r. ⌜ ((y : List ℕ) → outcome r (now (table .entry)) y (now (out .exit))
-        ≡ begunOf 8 s k x (now (table .entry)) y (now (out .entry)) (afterOpenCheck (filenameOf 8 (entryOf 8 (now (table .entry)) (x .entry))))) ⌝ }
+// What a region that ends behind the memory is refused with.
+fn past_end(width: Width) -> u8
+    ensures { λ r. ⌜ r ≡ pastEnd width ⌝ }
 {
+    match width {
+        Width::Bits32 => 24,
+        Width::Bits64 => 22,
+    }
+}
+
+// The step after open, by the entry's name, then its end: 21, then 22 or 24.
+fn begin_region(s: Session, k: usize, x: Region, table: &[u8], out: &mut [u8]) -> Stepped
+    requires { ⌜ (48 ≤ length (now out)) × (there (fieldSize (s .width)) (now table) (x .entry) ≡ true) × (s .reads ≤ 2 ^ 63 + 1) ⌝ }
+    ensures { λ r. ⌜ ((y : List ℕ) → outcome r (now (table .entry)) y (now (out .exit))
+        ≡ begunOf s k x (now (table .entry)) y (now (out .entry)) (afterOpenCheck (nameIn (s .width) (now (table .entry)) x))) ⌝ }
+{
+    let width = s.width;
     let i = x.entry;
-    let at = entry_at(table, i);
+    let at = entry_at(table, width, i);
     let entry = at.entry;
     let name = entry.filename;
     let check = check_after_open(&name);
     if let NameCheck::Refused(why) = check {
         return moved(s, Phase::Ended(0), 0, Answer::Refused(why));
     }
-    if past_memory(x.base, x.len) {
-        return moved(s, Phase::Ended(0), 0, Answer::Refused(22));
+    if past_memory(width, x.base, x.len) {
+        return moved(s, Phase::Ended(0), 0, Answer::Refused(past_end(width)));
     }
     if x.len <= x.done {
         return close(s, k, x);
     }
     let opening = s.opening;
-    let c = ask(opening, s.reads, x, out);
+    let c = ask(width, opening, s.reads, x, out);
     counted_in(s, k, c)
 }
 
@@ -224,8 +259,9 @@ pub fn region_step(
     ensures { λ r. ⌜ Tells outcomeTold (outcome r (now (table .entry)) (now (reply .entry)) (now (out .exit)))
         (regionStep s k x (now (delivery .entry)) (now (table .entry)) (now (reply .entry)) (now (out .entry))) ⌝ }
 {
+    let width = s.width;
     let opening = s.opening;
-    let a = advance_region(opening, s.reads, k, x, delivery.len(), table, out);
+    let a = advance_region(width, opening, s.reads, k, x, delivery.len(), table, out);
     match a {
         Advance::Refused(why) => untouched(s, why),
         Advance::Waits => waits(s),

@@ -1,5 +1,6 @@
 -- Selection of table entries. Document 01, "Selection": with no names, entries of nonzero preference; otherwise those whose stem equals a name, A..Z
--- lowered on both sides. By membership: nothing here searches in an order. The width f of an entry's numbers, 8 in the step, is a parameter.
+-- lowered on both sides. By membership: nothing here searches in an order. The width f of an entry's numbers, 8 or 4, is a
+-- parameter.
 use Prim.Native.Nat.{ℕ, zero, suc, _+_}
 use mathlib.Core.Bool.{Bool, true, false, not}
 use mathlib.Core.List.{List, [], _∷_, map}

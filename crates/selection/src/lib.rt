@@ -4,11 +4,13 @@ use bundle::SlotNumber;
 use bundle::slot_at;
 use entry::RamdumpTable64;
 use entry::entry_at;
+use field::Width;
 use field::u32_padded;
 use filename::stem_len;
 ghost use mathlib.Core.Path.{_≡_};
 ghost use mathlib.Core.List.{map};
 ghost use Prim.Native.Nat.{_-_};
+ghost use Rattle.field.specs.Field.{fieldSize};
 ghost use Rattle.selection.specs.Selection.{low, namesFrom, member, selectedBy, selectedAt, nextOf};
 
 // A letter of A..Z lowered; any other byte is itself.
@@ -70,10 +72,10 @@ fn selects(names: &[u8], entry: RamdumpTable64) -> bool
 }
 
 // Whether entry i of a table is there and selected.
-pub fn is_selected(table: &[u8], i: usize, names: &[u8]) -> bool
-    ensures { λ r. ⌜ r ≡ selectedAt 8 (now (names .entry)) (now (table .entry)) i ⌝ }
+pub fn is_selected(table: &[u8], width: Width, i: usize, names: &[u8]) -> bool
+    ensures { λ r. ⌜ r ≡ selectedAt (fieldSize width) (now (names .entry)) (now (table .entry)) i ⌝ }
 {
-    let e = entry_at(table, i);
+    let e = entry_at(table, width, i);
     let there = e.there;
     if !there {
         return false;
@@ -84,12 +86,12 @@ pub fn is_selected(table: &[u8], i: usize, names: &[u8]) -> bool
 
 // The first selected entry from `from` on and before `entries`; `entries` where there is none (`from` where it is not below `entries`). The search ends
 // with the table: of what lies behind it nothing is selected, however many entries are named.
-pub fn next_selected(table: &[u8], entries: usize, names: &[u8], from: usize) -> usize
-    ensures { λ r. ⌜ r ≡ nextOf 8 (now (names .entry)) (now (table .entry)) (entries - from) from ⌝ }
+pub fn next_selected(table: &[u8], width: Width, entries: usize, names: &[u8], from: usize) -> usize
+    ensures { λ r. ⌜ r ≡ nextOf (fieldSize width) (now (names .entry)) (now (table .entry)) (entries - from) from ⌝ }
 {
     let mut i = from;
     while i < entries {
-        let e = entry_at(table, i);
+        let e = entry_at(table, width, i);
         let there = e.there;
         if !there {
             return entries;

@@ -1,6 +1,6 @@
 -- *Between regions*. Document 01, "Session": "take nothing; open the next selected entry, i its place in the table from 0, its base and length kept in
--- the session from then on, or finish (3)". f is the width of an entry's numbers: 8 in the step,
--- so that an entry (`entrySize f`) has 64 bytes.
+-- the session from then on, or finish (3)". f is the width of an entry's numbers: 8 or 4 in the step, by the session's width, so that an entry (`entrySize f`) has
+-- 64 bytes or 52.
 use Prim.Native.Nat.{ℕ, _-_, _/_}
 use mathlib.Core.Bool.{false}
 use mathlib.Core.List.{List}
@@ -17,7 +17,7 @@ use Rattle.session.specs.declared.Answer.the-variants as A
 use Rattle.session.specs.declared.Stepped.{Stepped}
 use Rattle.session.specs.Outcome.{inPhase, ended, region, gives}
 
--- "Entries are length / 64": a remainder is no entry
+-- "Entries are length / 64", of 32 bits "the entries are length / 52" (document 02, request 2): a remainder is no entry
 abbrev pub entriesIn : ℕ → ℕ → ℕ
 entriesIn f k = k / entrySize f
 

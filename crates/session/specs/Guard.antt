@@ -6,6 +6,7 @@ use Prim.Native.Nat.{ℕ}
 use lib.Dec.{ltb}
 use lib.ListN.{length}
 use Rattle.base.specs.Choice.{pick}
+use Rattle.field.specs.Field.{fieldSize}
 use Rattle.session.specs.declared.Filling.{Filling}
 use Rattle.session.specs.declared.Region.{Region}
 use Rattle.session.specs.declared.Phase.{Phase}
@@ -20,7 +21,7 @@ use Rattle.session.specs.Limits.{readsLimit, phaseLimit}
 
 -- 18 for a session as if it were in the phase p; at its own phase it is `limitOf`
 abbrev pub limitAt : Session → Phase → List ℕ → List ℕ → Bool
-limitAt s p t y = readsLimit s || phaseLimit 8 (s .window) p t y
+limitAt s p t y = readsLimit s || phaseLimit (fieldSize (s .width)) (s .window) p t y
 
 -- 3, then 18, then x
 abbrev pub guarded : Session → Phase → List ℕ → List ℕ → List ℕ → Outcome → Outcome
@@ -39,7 +40,7 @@ unfoldable pub tableStep : Session → Filling → List ℕ → List ℕ → Lis
 tableStep s x d t y o = guarded s (P.Table x) t y o (tableOf s x d t y o)
 
 unfoldable pub betweenStep : Session → ℕ → ℕ → List ℕ → List ℕ → List ℕ → List ℕ → Outcome
-betweenStep s k i names t y o = guarded s (P.Between k i) t y o (outcome (betweenOf 8 s k i names t) t y o)
+betweenStep s k i names t y o = guarded s (P.Between k i) t y o (outcome (betweenOf (fieldSize (s .width)) s k i names t) t y o)
 
 unfoldable pub regionStep : Session → ℕ → Region → List ℕ → List ℕ → List ℕ → List ℕ → Outcome
-regionStep s k x d t y o = guarded s (P.Region k x) t y o (regionOf 8 s k x d t y o)
+regionStep s k x d t y o = guarded s (P.Region k x) t y o (regionOf s k x d t y o)

@@ -1,11 +1,13 @@
 -- 18. Document 01, Refusals, "Step, session and buffers untouched": "18 the reply buffer during a response (its finishing step too), or the table buffer
 -- during table, regions and between them, shorter than the declared length, or a session count above its limit". Each phase has its own counts; the
--- memory reads are judged in all. f is the width of an entry's numbers: 8 in the step.
+-- memory reads are judged in all. Document 02, request 2: "For such a session the limit of base plus length under 18 is 2^32." f is the width of an entry's
+-- numbers: 8 or 4, by the session's width.
 use Prim.Native.Nat.{ℕ, _+_, _^_}
 use mathlib.Core.Bool.{Bool, false, not, _&&_, _||_}
 use mathlib.Core.List.{List}
 use lib.Dec.{ltb, leb, eqb}
 use lib.ListN.{length}
+use Rattle.field.specs.Field.{fieldSize}
 use Rattle.packet.specs.Packet.{lengthField, badLength}
 use Rattle.session.specs.declared.Filling.{Filling}
 use Rattle.session.specs.declared.Region.{Region}
@@ -24,14 +26,14 @@ fillingLimit x b = ltb (length b) (x .declared) || ltb (x .declared) (x .filled)
 
 -- "done plus outstanding, the region's length; base plus length, 2^64 once anything is done or outstanding; entry number, the table's entries, inside
 -- a region one fewer"
--- (in this order: the buffer, the entry, done plus outstanding, the end; 256 ^ f is 2^64)
+-- (in this order: the buffer, the entry, done plus outstanding, the end; 256 ^ f is 2^64 or 2^32)
 abbrev pub regionLimit : ℕ → ℕ → Region → List ℕ → Bool
 regionLimit f k x t =
     ltb (length t) k || leb (entriesIn f k) (x .entry) || ltb (x .len) (x .done + x .outstanding)
     || (not (eqb (x .done + x .outstanding) 0) && ltb (256 ^ f) (x .base + x .len))
 
 -- "memory reads 2^63 + 1", before a step: one for the table, and 1,024 regions (65,536 / 64) of 2^53 chunks each, which is 2^64 bytes divided by 2,048; 1,024 times 2^53
--- is 2^63. 01's bound leaves room for chunks of half of 4,096: with these no run passes 2^62 + 1
+-- is 2^63. 01's bound leaves room for chunks of half of 4,096: with these no run passes 2^62 + 1. (Of 32 bits: 1,260 regions of 2^21 chunks)
 abbrev pub readsLimit : Session → Bool
 readsLimit s = ltb (2 ^ 63 + 1) (s .reads)
 
@@ -46,4 +48,4 @@ phaseLimit f w (P.Region k x) t y = regionLimit f k x t
 phaseLimit f w (P.Ended k) t y = false
 
 unfoldable pub limitOf : Session → List ℕ → List ℕ → Bool
-limitOf s t y = readsLimit s || phaseLimit 8 (s .window) (s .phase) t y
+limitOf s t y = readsLimit s || phaseLimit (fieldSize (s .width)) (s .window) (s .phase) t y

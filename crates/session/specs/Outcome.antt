@@ -4,6 +4,8 @@ use Prim.Native.Nat.{ℕ}
 use mathlib.Core.Bool.{Bool, true, false}
 use mathlib.Core.List.{List}
 use lib.ListN.{replicate}
+use Rattle.field.specs.declared.Width.{Width}
+use Rattle.field.specs.declared.Width.the-variants as WI
 use Rattle.verdict.specs.declared.Opening.{Opening}
 use Rattle.session.specs.declared.Filling.{Filling}
 use Rattle.session.specs.declared.Region.{Region}
@@ -14,19 +16,22 @@ use Rattle.session.specs.declared.Answer.{Answer}
 use Rattle.session.specs.declared.Answer.the-variants as A
 use Rattle.session.specs.declared.Stepped.{Stepped}
 
--- "Opened with mode, command or none, backend": no packet byte is held
+-- "Opened with mode, command or none, backend": no packet byte is held. The width is that of the memory debug that came, 64 bits before (document 02, request 2)
 abbrev pub openedWith : Opening → Session
-openedWith u = record { opening = u; reads = 0; window = replicate 48 0; phase = P.Packet 0 }
+openedWith u = record { opening = u; reads = 0; width = WI.Bits64; window = replicate 48 0; phase = P.Packet 0 }
 
--- a session in another phase; with another count of memory reads; with another window
+-- a session in another phase; with another count of memory reads; with another window; of another width
 abbrev pub inPhase : Session → Phase → Session
-inPhase s p = record { opening = s .opening; reads = s .reads; window = s .window; phase = p }
+inPhase s p = record { opening = s .opening; reads = s .reads; width = s .width; window = s .window; phase = p }
 
 abbrev pub reading : Session → ℕ → Phase → Session
-reading s r p = record { opening = s .opening; reads = r; window = s .window; phase = p }
+reading s r p = record { opening = s .opening; reads = r; width = s .width; window = s .window; phase = p }
 
 abbrev pub holding : Session → List ℕ → Phase → Session
-holding s w p = record { opening = s .opening; reads = s .reads; window = w; phase = p }
+holding s w p = record { opening = s .opening; reads = s .reads; width = s .width; window = w; phase = p }
+
+abbrev pub ofWidth : Session → Width → Session
+ofWidth s v = record { opening = s .opening; reads = s .reads; width = v; window = s .window; phase = s .phase }
 
 -- a session that ends: all but the phase stays as it was before the step, the window too; the phase keeps the length of the response that came, else 0
 abbrev pub ended : Session → Session

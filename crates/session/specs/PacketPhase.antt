@@ -1,6 +1,6 @@
 -- *Packet*. Document 01, "Session": "take up to the packet's end, refusing at its eighth byte on a bad length; short of the end, go. Then: Hello sends
--- HelloResp; .. MemDebug64 sends MemRead64 with its address and length, memory reads becoming 1; ResetResp finishes (2)." What a packet asks for is its
--- verdict (verdict/specs/Verdict).
+-- HelloResp; .. MemDebug64 sends MemRead64 with its address and length, memory reads becoming 1; ResetResp finishes (2)." Document 02, request 2: "After MemDebug the
+-- host .. sends MemRead for the table", and the session is of that width from then on. What a packet asks for is its verdict (verdict/specs/Verdict).
 use Prim.Native.Nat.{ℕ, _+_, _-_, min}
 use mathlib.Core.List.{List, _++_}
 use lib.Dec.{ltb}
@@ -15,7 +15,7 @@ use Rattle.verdict.specs.declared.Verdict.the-variants as W
 use Rattle.session.specs.declared.Phase.the-variants as P
 use Rattle.session.specs.declared.Session.{Session}
 use Rattle.session.specs.declared.Answer.the-variants as A
-use Rattle.session.specs.Outcome.{reading, holding, ended, filling, Outcome, outcome, gives}
+use Rattle.session.specs.Outcome.{reading, holding, ofWidth, ended, filling, Outcome, outcome, gives}
 
 -- the window with bytes x behind the first h held ones; what passes 48 bytes is not kept, and what stood behind x stays: a session's every byte is told.
 -- 48 is a hello, the longest of the kinds' least packets (`least-fits` of packet/proofs/Laws)
@@ -23,7 +23,8 @@ abbrev pub keep : List ℕ → ℕ → List ℕ → List ℕ
 keep w h x = take 48 (take h w ++ x ++ drop (h + length x) w)
 
 -- what a verdict does; w is the window with the packet's bytes, n the bytes taken. A session that ends keeps the window from
--- before the step (`ended`), without the bytes that this step took; where a memory debug came, holding sets the window and reading then the phase
+-- before the step (`ended`), without the bytes that this step took; where a memory debug came, holding sets the window, ofWidth the width, and reading then the
+-- phase
 abbrev pub acted : Session → ℕ → List ℕ → List ℕ → List ℕ → List ℕ → Verdict → Outcome
 acted s n w t y o (W.Reply q) = outcome (gives (holding s w (P.Packet 0)) n (A.Send (sizeOf q))) t y (front q o)
 acted s n w t y o (W.Image x k) = outcome (gives (holding s w (P.Packet 0)) n (A.Image x k)) t y o
@@ -31,9 +32,9 @@ acted s n w t y o W.Pass = outcome (gives (holding s w (P.Packet 0)) n A.Go) t y
 acted s n w t y o (W.Finish how) = outcome (gives (ended s) n (A.Finished how (s .reads))) t y o
 acted s n w t y o (W.Respond c k) =
     outcome (gives (holding s w (P.Response (filling k 0))) n (A.Send (sizeOf (Q.ExecuteData c)))) t y (front (Q.ExecuteData c) o)
-acted s n w t y o (W.Debug a k) =
-    outcome (gives (reading (holding s w (s .phase)) 1 (P.Table (filling k 0))) n (A.Send (sizeOf (Q.MemRead64 a k)))) t y
-    (front (Q.MemRead64 a k) o)
+acted s n w t y o (W.Debug v a k) =
+    outcome (gives (reading (ofWidth (holding s w (s .phase)) v) 1 (P.Table (filling k 0))) n (A.Send (sizeOf (Q.MemRead v a k)))) t y
+    (front (Q.MemRead v a k) o)
 acted s n w t y o (W.Refused why) = outcome (gives (ended s) n (A.Refused why)) t y o
 
 -- the packet is whole: its bytes, or the first 48 of them, stand in the window w. No kind looks at more than its first 48 bytes, so the verdict is that

@@ -1,12 +1,15 @@
 -- *Region*. Document 01, "Session": "an empty read first if one is due; with no chunk outstanding, close if all is done, else send MemRead64 for
--- min(4096, rest) at base + done and add one to the memory reads; else hand out min(outstanding, delivery)". f is the width of an entry's numbers:
--- 8 in the step.
+-- min(4096, rest) at base + done and add one to the memory reads; else hand out min(outstanding, delivery)". Document 02, request 2: "After MemDebug the host ..
+-- sends MemRead .. for every chunk". v is the session's width.
 use Prim.Native.Nat.{ℕ, suc, _+_, _-_, _%_, _^_, min}
 use mathlib.Core.Bool.{Bool, false, _&&_}
 use mathlib.Core.List.{List}
 use lib.Dec.{ltb, leb, eqb}
 use lib.ListN.{length}
 use Rattle.base.specs.Choice.{pick}
+use Rattle.field.specs.Field.{fieldSize}
+use Rattle.field.specs.declared.Width.{Width}
+use Rattle.field.specs.declared.Width.the-variants as WI
 use Rattle.entry.specs.Entry.{entryOf, filenameOf}
 use Rattle.filename.specs.Filename.{afterOpenCheck}
 use Rattle.filename.specs.declared.NameCheck.{NameCheck}
@@ -29,7 +32,7 @@ use Rattle.session.specs.Outcome.{inPhase, reading, ended, region, Outco
 abbrev pub dueAfter : Opening → ℕ → ℕ → Bool
 dueAfter u outstanding done = onUsb u && eqb outstanding 0 && eqb (done % 512) 0
 
--- ---- what the steps of a region count: the opening, the memory reads so far and the region; no session is in it
+-- ---- what the steps of a region count: the width, the opening, the memory reads so far and the region; no session is in it
 
 -- the region x afterwards, m memory reads, n bytes taken of the delivery, the answer a
 abbrev pub countedTo : Region → ℕ → ℕ → Answer → Counted
@@ -51,13 +54,13 @@ abbrev pub asksFor : Opening → Region → ℕ
 asksFor u x = min (chunkOf u) (x .len - x .done)
 
 -- the next memory read, and the out buffer with it
-abbrev pub askedOf : Opening → ℕ → Region → Counted
-askedOf u m x =
+abbrev pub askedOf : Width → Opening → ℕ → Region → Counted
+askedOf v u m x =
     let n = asksFor u x in
-    countedTo (recounted x (x .done) n false) (suc m) 0 (A.Send (sizeOf (Q.MemRead64 (x .base + x .done) n)))
+    countedTo (recounted x (x .done) n false) (suc m) 0 (A.Send (sizeOf (Q.MemRead v (x .base + x .done) n)))
 
-abbrev pub askedOut : Opening → Region → List ℕ → List ℕ
-askedOut u x o = front (Q.MemRead64 (x .base + x .done) (asksFor u x)) o
+abbrev pub askedOut : Width → Opening → Region → List ℕ → List ℕ
+askedOut v u x o = front (Q.MemRead v (x .base + x .done) (asksFor u x)) o
 
 -- k bytes came: what is outstanding of them is handed out, and what came beyond it is not taken
 abbrev pub handedOf : Opening → ℕ → Region → ℕ → Counted
@@ -80,20 +83,31 @@ unfoldable pub nextChunk : Session → ℕ → Region → List ℕ → List ℕ 
 nextChunk s k x t y o =
     pick (leb (x .len) (x .done))
     (outcome (closes s k x) t y o)
-    (outcome (countedIn s k (askedOf (s .opening) (s .reads) x)) t y (askedOut (s .opening) x o))
+    (outcome (countedIn s k (askedOf (s .width) (s .opening) (s .reads) x)) t y (askedOut (s .width) (s .opening) x o))
 
--- "in the step after open (nothing done or outstanding, no empty read due)": 21 by the table that is lent in that step, 22 by the base and length that
--- the session keeps; 256 ^ f is 2^64. With nothing outstanding, done is 0 only before the first memory read: each asks for at least a byte, and its bytes are
--- handed out before the next
-abbrev pub begunOf : ℕ → Session → ℕ → Region → List ℕ → List ℕ → List ℕ → NameCheck → Outcome
-begunOf f s k x t y o N.Good =
-    pick (ltb (256 ^ f) (x .base + x .len)) (outcome (gives (ended s) 0 (A.Refused 22)) t y o) (nextChunk s k x t y o)
-begunOf f s k x t y o (N.Refused why) = outcome (gives (ended s) 0 (A.Refused why)) t y o
+-- what a region that ends behind the memory is refused with: 22, and "24 when a selected 32-bit region has base + length above 2^32, in the place of 22"
+abbrev pub pastEnd : Width → ℕ
+pastEnd WI.Bits32 = 24
+pastEnd WI.Bits64 = 22
 
-unfoldable pub askOf : ℕ → Session → ℕ → Region → List ℕ → List ℕ → List ℕ → Outcome
-askOf f s k x t y o =
+-- "in the step after open (nothing done or outstanding, no empty read due)": 21 by the table that is lent in that step, 22 or 24 by the base and length that
+-- the session keeps; 256 ^ f is 2^64 or 2^32. With nothing outstanding, done is 0 only before the first memory read: each asks for at least a byte, and its bytes
+-- are handed out before the next
+abbrev pub begunOf : Session → ℕ → Region → List ℕ → List ℕ → List ℕ → NameCheck → Outcome
+begunOf s k x t y o N.Good =
+    pick (ltb (256 ^ fieldSize (s .width)) (x .base + x .len))
+    (outcome (gives (ended s) 0 (A.Refused (pastEnd (s .width)))) t y o)
+    (nextChunk s k x t y o)
+begunOf s k x t y o (N.Refused why) = outcome (gives (ended s) 0 (A.Refused why)) t y o
+
+-- the name of a region's entry, by the table t that is lent
+abbrev pub nameIn : Width → List ℕ → Region → List ℕ
+nameIn v t x = filenameOf (fieldSize v) (entryOf (fieldSize v) t (x .entry))
+
+unfoldable pub askOf : Session → ℕ → Region → List ℕ → List ℕ → List ℕ → Outcome
+askOf s k x t y o =
     pick (eqb (x .done) 0)
-    (begunOf f s k x t y o (afterOpenCheck (filenameOf f (entryOf f t (x .entry)))))
+    (begunOf s k x t y o (afterOpenCheck (nameIn (s .width) t x)))
     (nextChunk s k x t y o)
 
 -- bytes are outstanding: hand out what came
@@ -103,8 +117,8 @@ handOf s k x d t y o =
     (outcome (gives s 0 A.Go) t y o)
     (outcome (countedIn s k (handedOf (s .opening) (s .reads) x (length d))) t y o)
 
-unfoldable pub regionOf : ℕ → Session → ℕ → Region → List ℕ → List ℕ → List ℕ → List ℕ → Outcome
-regionOf f s k x d t y o =
+unfoldable pub regionOf : Session → ℕ → Region → List ℕ → List ℕ → List ℕ → List ℕ → Outcome
+regionOf s k x d t y o =
     pick (x .due)
     (outcome (countedIn s k (emptiedOf (s .reads) x)) t y o)
-    (pick (eqb (x .outstanding) 0) (askOf f s k x t y o) (handOf s k x d t y o))
+    (pick (eqb (x .outstanding) 0) (askOf s k x t y o) (handOf s k x d t y o))

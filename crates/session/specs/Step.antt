@@ -7,6 +7,7 @@ use Prim.Native.Nat.{ℕ}
 use lib.Dec.{ltb}
 use lib.ListN.{length}
 use Rattle.base.specs.Choice.{pick}
+use Rattle.field.specs.Field.{fieldSize}
 use Rattle.bundle.specs.Bundle.{wellFormed}
 use Rattle.session.specs.declared.Phase.{Phase}
 use Rattle.session.specs.declared.Phase.the-variants as P
@@ -26,8 +27,8 @@ onPhase s (P.Packet h) d set names t y o = packetOf s h d set t y o
 onPhase s (P.Response x) d set names t y o = responseOf s x d t y o
 onPhase s (P.Switched k) d set names t y o = switchedOf s k t y o
 onPhase s (P.Table x) d set names t y o = tableOf s x d t y o
-onPhase s (P.Between k i) d set names t y o = outcome (betweenOf 8 s k i names t) t y o
-onPhase s (P.Region k x) d set names t y o = regionOf 8 s k x d t y o
+onPhase s (P.Between k i) d set names t y o = outcome (betweenOf (fieldSize (s .width)) s k i names t) t y o
+onPhase s (P.Region k x) d set names t y o = regionOf s k x d t y o
 onPhase s (P.Ended k) d set names t y o = outcome (gives s 0 (A.Refused 4)) t y o
 
 -- session, delivery, image set, names, table, reply and out buffers. "Where several apply, the first written here is given": 1, 2, 3, 4, 18, the phase

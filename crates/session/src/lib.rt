@@ -1,4 +1,5 @@
 // The session: what a host keeps from step to step, and what a step answers.
+use field::Width;
 use verdict::Opening;
 ghost use mathlib.Core.Path.{_≡_};
 
@@ -38,6 +39,8 @@ pub enum Phase {
 pub struct Session {
     pub opening: Opening,
     pub reads: u64,
+    // of the memory debug that came; 64 bits before
+    pub width: Width,
     // the first bytes of the packet that is held: no packet that is decoded needs more
     pub window: [u8; 48],
     pub phase: Phase,

@@ -48,11 +48,13 @@ pub fn moved(s: Session, phase: Phase, taken: usize, answer: Answer) -> Stepped
     ensures { λ r. ⌜ r ≡ gives (inPhase s phase) taken answer ⌝ }
 {
     let opening = s.opening;
+    let width = s.width;
     let window = s.window;
     Stepped {
         session: Session {
             opening,
             reads: s.reads,
+            width,
             window,
             phase,
         },

@@ -1,12 +1,15 @@
 -- The verdict on one whole packet: 01's term "Packet" among the phases of a session, and the refusals that belong to it. Document 01, "Session",
 -- *Packet*; Refusals, "Step, session ended": 10 kinds 2, 5, 0x0f, 0x11; 11 length not exact; 12, 13; 14 end status not 0; 15 no command; 16 response
--- above the reply buffer; 17 table above 65,536 or its buffer. Where several apply, the first written is given. Besides the leaves and what an
--- opening decides (Opening), the step and the plain host share this alone.
+-- above the reply buffer; 17 table above 65,536 or its buffer. Where several apply, the first written is given. Document 02, request 2: "MemDebug must be exactly
+-- 16 bytes long, else 11. MemRead received from a device is 10." Besides the leaves and what an opening decides (Opening), the step and the plain host share
+-- this alone.
 use Prim.Native.Nat.{ℕ, min}
 use mathlib.Core.List.{List, [], _∷_}
 use lib.Dec.{ltb, eqb}
 use Rattle.base.specs.Choice.{pick}
 use Rattle.base.specs.Told.{Told, told, toldGo, toldImage, toldRefused}
+use Rattle.field.specs.declared.Width.{Width}
+use Rattle.field.specs.declared.Width.the-variants as WI
 use Rattle.bundle.specs.Bundle.{countOf}
 use Rattle.command.specs.Command.{commandNumber}
 use Rattle.command.specs.declared.SaharaCmdModeCmd.{SaharaCmdModeCmd}
@@ -57,12 +60,12 @@ responseFor rsize c k = pick (ltb rsize k) (W.Refused 16) (W.Respond c k)
 abbrev pub room : ℕ → ℕ
 room tsize = min 65536 tsize
 
--- "MemDebug64 sends MemRead64 with its address and length"; 17 table above 65,536 or its buffer
-abbrev pub tableFor : ℕ → ℕ → ℕ → Verdict
-tableFor tsize a k = pick (ltb (room tsize) k) (W.Refused 17) (W.Debug a k)
+-- "MemDebug64 sends MemRead64 with its address and length", MemDebug MemRead; 17 table above 65,536 or its buffer
+abbrev pub tableFor : ℕ → Width → ℕ → ℕ → Verdict
+tableFor tsize v a k = pick (ltb (room tsize) k) (W.Refused 17) (W.Debug v a k)
 
 -- by the kind (`kindIn` of packet/specs/Packet: HelloReq is Hello, ReadReq ReadData, ReadData64Req ReadData64, Eoi EndOfImage, DoneReq Done, ExecResp ExecuteResp, ExecData
--- ExecuteData, Debug64Req MemDebug64, ReadMem64Req MemRead64); u is what the session was opened with, len the length field, tsize and rsize the table and the reply
+-- ExecuteData, DebugReq MemDebug, ReadMemReq MemRead, Debug64Req MemDebug64, ReadMem64Req MemRead64); u is what the session was opened with, len the length field, tsize and rsize the table and the reply
 -- buffer's sizes. DoneResp and ExecuteResp may have any good length from that of their least packet on, 12 and 16 bytes
 abbrev pub onBody : Opening → List ℕ → ℕ → ℕ → ℕ → SaharaPacketBody → Verdict
 onBody u set tsize rsize len (B.HelloReq b) = exactly len 48 (W.Reply (Q.HelloResp (u .mode)))
@@ -72,10 +75,12 @@ onBody u set tsize rsize len (B.Eoi b) = exactly len 16 (endFor (b .status))
 onBody u set tsize rsize len B.DoneReq = W.Refused 10
 onBody u set tsize rsize len (B.DoneResp b) = doneFor set (b .status)
 onBody u set tsize rsize len B.ResetResp = exactly len 8 (W.Finish 2)
+onBody u set tsize rsize len (B.DebugReq b) = exactly len 16 (tableFor tsize WI.Bits32 (b .addr) (b .len))
+onBody u set tsize rsize len (B.ReadMemReq b) = W.Refused 10
 onBody u set tsize rsize len B.CommandReady = exactly len 8 (executeFor (u .command))
 onBody u set tsize rsize len (B.ExecResp b) = responseFor rsize (b .command) (b .len)
 onBody u set tsize rsize len (B.ExecData b) = W.Refused 10
-onBody u set tsize rsize len (B.Debug64Req b) = exactly len 24 (tableFor tsize (b .addr) (b .len))
+onBody u set tsize rsize len (B.Debug64Req b) = exactly len 24 (tableFor tsize WI.Bits64 (b .addr) (b .len))
 onBody u set tsize rsize len (B.ReadMem64Req b) = W.Refused 10
 onBody u set tsize rsize len (B.ReadData64Req b) = exactly len 32 (imageFor (rangeUnjudged set (b .image) (b .offset) (b .len)))
 
@@ -95,5 +100,5 @@ verdictTold (W.Image start k) = toldImage start k
 verdictTold W.Pass = toldGo
 verdictTold (W.Finish how) = told 7 (how ∷ [])
 verdictTold (W.Respond c k) = told 1 (requestNumber (Q.ExecuteData c) ∷ commandNumber c ∷ k ∷ [])
-verdictTold (W.Debug a k) = told 1 (requestNumber (Q.MemRead64 a k) ∷ a ∷ k ∷ 1 ∷ [])
+verdictTold (W.Debug v a k) = told 1 (requestNumber (Q.MemRead v a k) ∷ a ∷ k ∷ 1 ∷ [])
 verdictTold (W.Refused why) = toldRefused why

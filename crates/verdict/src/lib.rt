@@ -2,6 +2,7 @@
 use build::Request;
 use command::SaharaCmdModeCmd;
 use command::SaharaMode;
+use field::Width;
 use field::u32_padded;
 use image::ImageId;
 use image::ImageRange;
@@ -54,8 +55,8 @@ pub enum Verdict {
     Finish(u8),
     // a response of so many bytes to this command is to come
     Respond(SaharaCmdModeCmd, usize),
-    // the table stands at this address and has so many bytes
-    Debug(u64, u64),
+    // the table, of this width, stands at this address and has so many bytes
+    Debug(Width, u64, u64),
     Refused(u8),
 }
 
@@ -137,10 +138,11 @@ fn on_exec_resp(rsize: usize, command: SaharaCmdModeCmd, count: u32) -> Verdict
     Verdict::Respond(command, k)
 }
 
-fn on_debug64(tsize: usize, len: u32, addr: u64, count: u64) -> Verdict
-    ensures { λ r. ⌜ r ≡ exactly len 24 (tableFor tsize addr count) ⌝ }
+// A memory debug of either width, whose packet is to be `exact` bytes long.
+fn on_debug(tsize: usize, width: Width, len: u32, exact: u32, addr: u64, count: u64) -> Verdict
+    ensures { λ r. ⌜ r ≡ exactly len exact (tableFor tsize width addr count) ⌝ }
 {
-    if len != 24 {
+    if len != exact {
         return Verdict::Refused(11);
     }
     if 65536 < count {
@@ -149,7 +151,7 @@ fn on_debug64(tsize: usize, len: u32, addr: u64, count: u64) -> Verdict
     if tsize < count as usize {
         return Verdict::Refused(17);
     }
-    Verdict::Debug(addr, count)
+    Verdict::Debug(width, addr, count)
 }
 
 // The verdict by the kind; `len` is the packet's length field.
@@ -182,11 +184,20 @@ fn on_body(
             let command = b.command;
             on_exec_resp(rsize, command, b.len)
         }
-        SaharaPacketBody::Debug64Req(b) => on_debug64(tsize, len, b.addr, b.len),
+        SaharaPacketBody::DebugReq(b) => on_debug(
+            tsize,
+            Width::Bits32,
+            len,
+            16,
+            b.addr as u64,
+            b.len as u64,
+        ),
+        SaharaPacketBody::Debug64Req(b) => on_debug(tsize, Width::Bits64, len, 24, b.addr, b.len),
         SaharaPacketBody::ReadData64Req(b) => on_read(set, len, 32, b.image, b.offset, b.len),
         SaharaPacketBody::HelloResp(_) => Verdict::Refused(10),
         SaharaPacketBody::DoneReq => Verdict::Refused(10),
         SaharaPacketBody::ExecData(_) => Verdict::Refused(10),
+        SaharaPacketBody::ReadMemReq(_) => Verdict::Refused(10),
         SaharaPacketBody::ReadMem64Req(_) => Verdict::Refused(10),
     }
 }

@@ -44,8 +44,8 @@ sahara-reset-requires c κs = search needs
 enum-known-request-4 : tie.Need-enum-known-request-4
 enum-known-request-4 c = search needs
 
-sahara-send-mem-read64-requires : tie.Need-sahara-send-mem-read64-requires
-sahara-send-mem-read64-requires c κs = search needs
+sahara-send-mem-read-requires : tie.Need-sahara-send-mem-read-requires
+sahara-send-mem-read-requires c κs = search needs
 
 same-length : tie.Need-same-length
 same-length c = search needs
@@ -106,7 +106,7 @@ build-spec =
     enum-told-3
     sahara-reset-requires
     enum-known-request-4
-    sahara-send-mem-read64-requires
+    sahara-send-mem-read-requires
     same-length
     returns
     same-length-2

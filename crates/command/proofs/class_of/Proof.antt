@@ -70,15 +70,23 @@ returns-14 : tie.Need-returns-14
 unfolding classOf kinds unimplemented
 returns-14 c = rw (c .match .keys14) refl
 
--- 0
 returns-15 : tie.Need-returns-15
 unfolding classOf kinds unimplemented
-returns-15 c = let e : c .before .before .args .command ≡ 0 = omega arith in rw e refl
+returns-15 c = rw (c .match .keys15) refl
 
--- above 20 and not the XML mark
 returns-16 : tie.Need-returns-16
 unfolding classOf kinds unimplemented
-returns-16 c =
+returns-16 c = rw (c .match .keys16) refl
+
+-- 0
+returns-17 : tie.Need-returns-17
+unfolding classOf kinds unimplemented
+returns-17 c = let e : c .before .before .args .command ≡ 0 = omega arith in rw e refl
+
+-- above 20 and not the XML mark
+returns-18 : tie.Need-returns-18
+unfolding classOf kinds unimplemented
+returns-18 c =
     let n : ℕ = c .before .before .before .args .command in
     let x : n ≡ 0x6d783f3c → ⊥ = λ q. c .before .before .match .rest .0 .1 q in
     let h : 21 ≤ n = omega arith in
@@ -86,29 +94,31 @@ returns-16 c =
     let k : kindAmong n kinds C.Unknown ≡ C.Unknown = kind-above 21 n kinds C.Unknown tt h in
     simp (ne-eqb n 0x6d783f3c x, e, k)
 
-returns-17 : tie.Need-returns-17
+returns-19 : tie.Need-returns-19
 unfolding classOf kinds unimplemented
-returns-17 c = rw (c .match .keys15) refl
+returns-19 c = rw (c .match .keys17) refl
 
 -- the numbers of the arms of a single number
 abbrev singles : List ℕ
-singles = 1 ∷ 2 ∷ 3 ∷ 4 ∷ 5 ∷ 6 ∷ 8 ∷ 11 ∷ 14 ∷ 15 ∷ 16 ∷ 17 ∷ 18 ∷ 7 ∷ []
+singles = 1 ∷ 2 ∷ 3 ∷ 4 ∷ 5 ∷ 6 ∷ 8 ∷ 9 ∷ 10 ∷ 11 ∷ 14 ∷ 15 ∷ 16 ∷ 17 ∷ 18 ∷ 7 ∷ []
 
 -- 1..20 and none of these
-returns-18 : tie.Need-returns-18
+returns-20 : tie.Need-returns-20
 unfolding classOf kinds unimplemented
-returns-18 c =
+returns-20 c =
     let n : ℕ = c .before .before .before .args .command in
     let r = c .before .before .match .rest in
     let e : among n singles ≡ false =
     simp (
-      ne-eqb n 1 (λ q. r .0 .0 .0 .0 .0 .0 .0 .0 .0 .0 .0 .0 .0 .0 .1 q),
-      ne-eqb n 2 (λ q. r .0 .0 .0 .0 .0 .0 .0 .0 .0 .0 .0 .0 .0 .1 q),
-      ne-eqb n 3 (λ q. r .0 .0 .0 .0 .0 .0 .0 .0 .0 .0 .0 .0 .1 q),
-      ne-eqb n 4 (λ q. r .0 .0 .0 .0 .0 .0 .0 .0 .0 .0 .0 .1 q),
-      ne-eqb n 5 (λ q. r .0 .0 .0 .0 .0 .0 .0 .0 .0 .0 .1 q),
-      ne-eqb n 6 (λ q. r .0 .0 .0 .0 .0 .0 .0 .0 .0 .1 q),
-      ne-eqb n 8 (λ q. r .0 .0 .0 .0 .0 .0 .0 .0 .1 q),
+      ne-eqb n 1 (λ q. r .0 .0 .0 .0 .0 .0 .0 .0 .0 .0 .0 .0 .0 .0 .0 .0 .1 q),
+      ne-eqb n 2 (λ q. r .0 .0 .0 .0 .0 .0 .0 .0 .0 .0 .0 .0 .0 .0 .0 .1 q),
+      ne-eqb n 3 (λ q. r .0 .0 .0 .0 .0 .0 .0 .0 .0 .0 .0 .0 .0 .0 .1 q),
+      ne-eqb n 4 (λ q. r .0 .0 .0 .0 .0 .0 .0 .0 .0 .0 .0 .0 .0 .1 q),
+      ne-eqb n 5 (λ q. r .0 .0 .0 .0 .0 .0 .0 .0 .0 .0 .0 .0 .1 q),
+      ne-eqb n 6 (λ q. r .0 .0 .0 .0 .0 .0 .0 .0 .0 .0 .0 .1 q),
+      ne-eqb n 8 (λ q. r .0 .0 .0 .0 .0 .0 .0 .0 .0 .0 .1 q),
+      ne-eqb n 9 (λ q. r .0 .0 .0 .0 .0 .0 .0 .0 .0 .1 q),
+      ne-eqb n 10 (λ q. r .0 .0 .0 .0 .0 .0 .0 .0 .1 q),
       ne-eqb n 11 (λ q. r .0 .0 .0 .0 .0 .0 .0 .1 q),
       ne-eqb n 14 (λ q. r .0 .0 .0 .0 .0 .0 .1 q),
       ne-eqb n 15 (λ q. r .0 .0 .0 .0 .0 .1 q),
@@ -141,4 +151,6 @@ class-of-spec =
     returns-15
     returns-16
     returns-17
-    returns-18)
+    returns-18
+    returns-19
+    returns-20)

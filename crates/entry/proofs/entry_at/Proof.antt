@@ -1,37 +1,68 @@
--- `entry::entry_at` meets its contract: the test by `/` is the definition's, and each answer is `entry-missing` or `entry-there`. Assumes nothing.
-use mathlib.Core.Path.{_≡_}
+-- `entry::entry_at` meets its contract: the entries of the table are those that are there (`there-below`), and each answer is `entry-missing` or
+-- `entry-there`. Assumes nothing.
+use mathlib.Core.Path.{_≡_, _∙_}
 use mathlib.Core.Bool.{true, false}
-use Prim.Native.Nat.{_+_, _*_}
+use mathlib.Core.List.{List}
+use Prim.Native.Nat.{ℕ, _+_, _*_, _/_, _≤_}
 use native.Mathlib.Omega.{arith}
 use denote.Ref.{now}
 use lib.ListN.{length}
-use borrow.Author.Tests.{le-leb, lt-leb}
-use Rattle.entry.specs.Entry.{there}
-use Rattle.entry.proofs.Laws.{entry-there, entry-missing}
+use borrow.Author.Tests.{le-ltb, lt-ltb}
+use Rattle.field.specs.Field.{fieldSize}
+use Rattle.entry.specs.Entry.{entrySize, there}
+use Rattle.entry.proofs.Laws.{entry-there, entry-missing, there-below, there-fits}
 use borrow.Author.Needs.{needs}
 use Rattle.entry.proofs.entry_at.Statement.{statement}
 use Rattle.entry.proofs.entry_at.Tie as tie
+
+entries-in-requires : tie.Need-entries-in-requires
+entries-in-requires c κs = search needs
 
 zeros-requires : tie.Need-zeros-requires
 zeros-requires c κs = search needs
 
 returns : tie.Need-returns
 returns c =
-    let a = c .before .before .before .args in
-    let e : there 8 (now (a .table)) (a .i) ≡ false = lt-leb (64 * (a .i + 1)) (length (now (a .table))) (omega arith) in
-    cc (entry-missing 8 (now (a .table)) (a .i) e)
+    let a = c .before .before .before .before .args in
+    let f : ℕ = fieldSize (a .width) in
+    let t : List ℕ = now (a .table) in
+    let e : there f t (a .i) ≡ false = there-below f t (a .i) ∙ le-ltb (a .i) (length t / entrySize f) (omega arith) in
+    cc (entry-missing f t (a .i) e)
+
+-- the entry is there
+fits : (c : tie.After-entry-size)
+    → (let a = c .before .before .before .before .args in let n = entrySize (fieldSize (a .width)) in n * a .i + n ≤ length (now (a .table)))
+fits c =
+    let a = c .before .before .before .before .args in
+    let f : ℕ = fieldSize (a .width) in
+    let t : List ℕ = now (a .table) in
+    there-fits f t (a .i) (there-below f t (a .i) ∙ lt-ltb (a .i) (length t / entrySize f) (omega arith))
+
+entry-size-requires : tie.Need-entry-size-requires
+entry-size-requires c κs = search needs
 
 mul-decode : tie.Need-mul-decode
-mul-decode c = search needs
+mul-decode c = rw (c .entry-size .ensures) (omega (arith, fits c))
 
 decode-requires : tie.Need-decode-requires
-decode-requires c κs = search needs
+decode-requires c κs = rw (c .entry-size .ensures) (fits c)
 
 returns-2 : tie.Need-returns-2
 returns-2 c =
-    let a = c .before .before .before .args in
-    let e : there 8 (now (a .table)) (a .i) ≡ true = le-leb (64 * (a .i + 1)) (length (now (a .table))) (omega arith) in
-    cc (entry-there 8 (now (a .table)) (a .i) e)
+    let a = c .before .before .before .before .before .args in
+    let f : ℕ = fieldSize (a .width) in
+    let t : List ℕ = now (a .table) in
+    let e : there f t (a .i) ≡ true = there-below f t (a .i) ∙ lt-ltb (a .i) (length t / entrySize f) (omega arith) in
+    cc (entry-there f t (a .i) e, c .before .entry-size .ensures)
 
 pub entry-at-spec : {M : Type 1} → statement M
-entry-at-spec = tie.close (tie.spec zeros-requires returns mul-decode decode-requires returns-2)
+entry-at-spec =
+    tie.close
+    (tie.spec
+    entries-in-requires
+    zeros-requires
+    returns
+    entry-size-requires
+    mul-decode
+    decode-requires
+    returns-2)

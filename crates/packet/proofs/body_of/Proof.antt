@@ -76,6 +76,24 @@ enum-told-13 c = c .match .keys13
 read-data64-requires : tie.Need-read-data64-requires
 read-data64-requires c κs = rw (c .enum-told13 .given .1) at (c .before .before .before .pre)
 
+enum-told-14 : tie.Need-enum-told-14
+enum-told-14 c = c .match .keys14
+
+word-requires-4 : tie.Need-word-requires-4
+word-requires-4 c κs = let l = rw (c .enum-told14 .given .1) at (c .before .before .before .pre) in omega arith
+
+word-requires-5 : tie.Need-word-requires-5
+word-requires-5 c κs = let l = rw (c .before .enum-told14 .given .1) at (c .before .before .before .before .pre) in omega arith
+
+enum-told-15 : tie.Need-enum-told-15
+enum-told-15 c = c .match .keys15
+
+word-requires-6 : tie.Need-word-requires-6
+word-requires-6 c κs = let l = rw (c .enum-told15 .given .1) at (c .before .before .before .pre) in omega arith
+
+word-requires-7 : tie.Need-word-requires-7
+word-requires-7 c κs = let l = rw (c .before .enum-told15 .given .1) at (c .before .before .before .before .pre) in omega arith
+
 returns : tie.Need-returns
 returns c = rw (c .before .enum-told .given .1) (c .hello-req-body .ensures)
 
@@ -115,6 +133,12 @@ returns-12 c = rw (c .before .enum-told12 .given .1, c .mem642 .ensures) refl
 returns-13 : tie.Need-returns-13
 returns-13 c = rw (c .before .enum-told13 .given .1) (c .read-data64 .ensures)
 
+returns-14 : tie.Need-returns-14
+returns-14 c = rw (c .before .before .enum-told14 .given .1, c .before .word4 .ensures, c .word5 .ensures) refl
+
+returns-15 : tie.Need-returns-15
+returns-15 c = rw (c .before .before .enum-told15 .given .1, c .before .word6 .ensures, c .word7 .ensures) refl
+
 pub body-of-spec : {M : Type 1} → statement M
 body-of-spec =
     tie.close
@@ -143,6 +167,12 @@ body-of-spec =
     mem64-requires-2
     enum-told-13
     read-data64-requires
+    enum-told-14
+    word-requires-4
+    word-requires-5
+    enum-told-15
+    word-requires-6
+    word-requires-7
     returns
     returns-2
     returns-3
@@ -155,4 +185,6 @@ body-of-spec =
     returns-10
     returns-11
     returns-12
-    returns-13)
+    returns-13
+    returns-14
+    returns-15)

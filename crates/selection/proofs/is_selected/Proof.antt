@@ -3,6 +3,7 @@ use mathlib.Core.Path.{_≡_, sym, ap, _∙_}
 use mathlib.Core.Bool.{false}
 use denote.Ref.{now}
 use borrow.Author.Tests.{not-true, not-false}
+use Rattle.field.specs.Field.{fieldSize}
 use Rattle.entry.specs.Entry.{there}
 use Rattle.entry.specs.declared.EntryAt.{EntryAt}
 use Rattle.entry.proofs.Laws.{entry-flag}
@@ -18,9 +19,9 @@ returns : tie.Need-returns
 returns c =
     let a = c .before .before .before .before .args in
     let r = c .before .entry-at in
-    let h : there 8 (now (a .table)) (a .i) ≡ false =
-    sym (entry-flag 8 (now (a .table)) (a .i)) ∙ sym (ap (λ (x : EntryAt). x .there) (r .ensures)) ∙ not-true _ (c .if1 .taken) in
-    sym (selected-missing 8 (now (a .names)) (now (a .table)) (a .i) h)
+    let h : there (fieldSize (a .width)) (now (a .table)) (a .i) ≡ false =
+    sym (entry-flag (fieldSize (a .width)) (now (a .table)) (a .i)) ∙ sym (ap (λ (x : EntryAt). x .there) (r .ensures)) ∙ not-true _ (c .if1 .taken) in
+    sym (selected-missing (fieldSize (a .width)) (now (a .names)) (now (a .table)) (a .i) h)
 
 selects-requires : tie.Need-selects-requires
 selects-requires c κs = search needs
@@ -30,7 +31,7 @@ returns-2 c =
     let a = c .before .before .before .before .before .before .args in
     let r = c .before .before .before .entry-at in
     c .selects .ensures
-    ∙ selected-told 8 (now (a .names)) (now (a .table)) (a .i) (r .result) (r .ensures) (not-false _ (c .before .before .if1 .left))
+    ∙ selected-told (fieldSize (a .width)) (now (a .names)) (now (a .table)) (a .i) (r .result) (r .ensures) (not-false _ (c .before .before .if1 .left))
 
 pub is-selected-spec : {M : Type 1} → statement M
 is-selected-spec = tie.close (tie.spec entry-at-requires returns selects-requires returns-2)

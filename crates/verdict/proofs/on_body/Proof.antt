@@ -58,26 +58,41 @@ on-exec-resp-requires c κs = tt
 enum-known-body-5 : tie.Need-enum-known-body-5
 enum-known-body-5 c = c .match .keys8
 
-on-debug64-requires : tie.Need-on-debug64-requires
-on-debug64-requires c κs = tt
+cast-on-debug : tie.Need-cast-on-debug
+cast-on-debug c = search needs
+
+cast-on-debug-2 : tie.Need-cast-on-debug-2
+cast-on-debug-2 c = search needs
+
+on-debug-requires : tie.Need-on-debug-requires
+on-debug-requires c κs = tt
 
 enum-known-body-6 : tie.Need-enum-known-body-6
 enum-known-body-6 c = c .match .keys9
+
+on-debug-requires-2 : tie.Need-on-debug-requires-2
+on-debug-requires-2 c κs = tt
+
+enum-known-body-7 : tie.Need-enum-known-body-7
+enum-known-body-7 c = c .match .keys10
 
 on-read-requires-2 : tie.Need-on-read-requires-2
 on-read-requires-2 c κs = tt
 
 enum-told-4 : tie.Need-enum-told-4
-enum-told-4 c = c .match .keys10
+enum-told-4 c = c .match .keys11
 
 enum-told-5 : tie.Need-enum-told-5
-enum-told-5 c = c .match .keys11
+enum-told-5 c = c .match .keys12
 
 enum-told-6 : tie.Need-enum-told-6
-enum-told-6 c = c .match .keys12
+enum-told-6 c = c .match .keys13
 
 enum-told-7 : tie.Need-enum-told-7
-enum-told-7 c = c .match .keys13
+enum-told-7 c = c .match .keys14
+
+enum-told-8 : tie.Need-enum-told-8
+enum-told-8 c = c .match .keys15
 
 returns : tie.Need-returns
 returns c = rw (c .before .enum-told .given .1) (c .on-hello .ensures)
@@ -101,22 +116,28 @@ returns-7 : tie.Need-returns-7
 returns-7 c = rw (c .before .before .body4 .given .1) (c .on-exec-resp .ensures)
 
 returns-8 : tie.Need-returns-8
-returns-8 c = rw (c .before .before .body5 .given .1) (c .on-debug64 .ensures)
+returns-8 c = rw (c .before .before .before .before .body5 .given .1) (c .on-debug .ensures)
 
 returns-9 : tie.Need-returns-9
-returns-9 c = rw (c .before .before .body6 .given .1) (c .on-read2 .ensures)
+returns-9 c = rw (c .before .before .body6 .given .1) (c .on-debug2 .ensures)
 
 returns-10 : tie.Need-returns-10
-returns-10 c = rw (c .enum-told4 .given .1) refl
+returns-10 c = rw (c .before .before .body7 .given .1) (c .on-read2 .ensures)
 
 returns-11 : tie.Need-returns-11
-returns-11 c = rw (c .enum-told5 .given .1) refl
+returns-11 c = rw (c .enum-told4 .given .1) refl
 
 returns-12 : tie.Need-returns-12
-returns-12 c = rw (c .enum-told6 .given .1) refl
+returns-12 c = rw (c .enum-told5 .given .1) refl
 
 returns-13 : tie.Need-returns-13
-returns-13 c = rw (c .enum-told7 .given .1) refl
+returns-13 c = rw (c .enum-told6 .given .1) refl
+
+returns-14 : tie.Need-returns-14
+returns-14 c = rw (c .enum-told7 .given .1) refl
+
+returns-15 : tie.Need-returns-15
+returns-15 c = rw (c .enum-told8 .given .1) refl
 
 pub on-body-spec : {M : Type 1} → statement M
 on-body-spec =
@@ -140,13 +161,18 @@ on-body-spec =
     enum-known-body-4
     on-exec-resp-requires
     enum-known-body-5
-    on-debug64-requires
+    cast-on-debug
+    cast-on-debug-2
+    on-debug-requires
     enum-known-body-6
+    on-debug-requires-2
+    enum-known-body-7
     on-read-requires-2
     enum-told-4
     enum-told-5
     enum-told-6
     enum-told-7
+    enum-told-8
     returns
     returns-2
     returns-3
@@ -159,4 +185,6 @@ on-body-spec =
     returns-10
     returns-11
     returns-12
-    returns-13)
+    returns-13
+    returns-14
+    returns-15)

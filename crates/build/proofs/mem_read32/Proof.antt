@@ -1,13 +1,14 @@
--- `build::sahara_send_mem_read64` meets its contract: refused where the test says so, else the header and two longs. Assumes nothing.
+-- `build::mem_read32` meets its contract: refused where the test says so, else the header and two words. Assumes nothing.
 use mathlib.Core.Path.{refl}
 use native.Mathlib.Omega.{arith}
 use Rattle.field.specs.Field.{leBytes}
+use Rattle.field.specs.declared.Width.the-variants as WI
 use Rattle.build.specs.Build.{fields, bytesOf}
 use Rattle.build.specs.declared.Request.the-variants as Q
 use Rattle.build.proofs.Laws.{refuses, builds}
 use borrow.Author.Needs.{needs}
-use Rattle.build.proofs.sahara_send_mem_read64.Statement.{statement}
-use Rattle.build.proofs.sahara_send_mem_read64.Tie as tie
+use Rattle.build.proofs.mem_read32.Statement.{statement}
+use Rattle.build.proofs.mem_read32.Tie as tie
 
 returns : tie.Need-returns
 returns c = refuses _ _ (omega arith)
@@ -18,11 +19,11 @@ kind-number-requires c κs = search needs
 sahara-send-generic-requires : tie.Need-sahara-send-generic-requires
 sahara-send-generic-requires c κs = search needs
 
-long-requires : tie.Need-long-requires
-long-requires c κs = search needs
+word-requires : tie.Need-word-requires
+word-requires c κs = search needs
 
-long-requires-2 : tie.Need-long-requires-2
-long-requires-2 c κs = search needs
+word-requires-2 : tie.Need-word-requires-2
+word-requires-2 c κs = search needs
 
 same-length : tie.Need-same-length
 same-length c = search needs
@@ -33,17 +34,17 @@ returns-2 c =
     let l2 = c .before .before in
     let l1 = l2 .before .before .before .before in
     let g = l1 .before .before .before .before in
-    builds (Q.MemRead64 _ _) _ _ (omega arith)
-    (rw (l2 .long2 .ensures, l1 .long .ensures, g .sahara-send-generic .ensures, g .before .kind-number .ensures) refl)
+    builds (Q.MemRead WI.Bits32 _ _) _ _ (omega arith)
+    (rw (l2 .word2 .ensures, l1 .word .ensures, g .sahara-send-generic .ensures, g .before .kind-number .ensures) refl)
 
-pub sahara-send-mem-read64-spec : {M : Type 1} → statement M
-sahara-send-mem-read64-spec =
+pub mem-read32-spec : {M : Type 1} → statement M
+mem-read32-spec =
     tie.close
     (tie.spec
     returns
     kind-number-requires
     sahara-send-generic-requires
-    long-requires
-    long-requires-2
+    word-requires
+    word-requires-2
     same-length
     returns-2)
