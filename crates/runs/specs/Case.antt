@@ -1,11 +1,9 @@
--- Where a case's parts stand in the input: session, what the buffers begin with, image set, names, the device's bytes, one behind the other.
+-- Where a case's parts end in its bytes: session, what the buffers begin with, image set, names, the device's bytes, one behind the other.
 use Prim.Native.Nat.{ℕ, _≤_}
 
-pub record Placed (from session lent set names feed end most : ℕ) : Type 0 where
-  pub a : from ≤ session
-  pub b : session ≤ lent
-  pub c : lent ≤ set
-  pub d : set ≤ names
-  pub e : names ≤ feed
-  pub f : feed ≤ end
-  pub g : end ≤ most
+pub record Placed (lent set names feed end most : ℕ) : Type 0 where
+  pub a : lent ≤ set
+  pub b : set ≤ names
+  pub c : names ≤ feed
+  pub d : feed ≤ end
+  pub e : end ≤ most

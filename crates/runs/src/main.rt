@@ -21,6 +21,7 @@ ghost use Prim.Native.Nat.{_+_, _≤_, _<_};
 ghost use lib.ListN.{length};
 ghost use Rattle.runs.specs.Case.{Placed};
 
+// What the words say; the session begins at 0, each other part where the one before it ends.
 struct Case {
     mode: u32,
     command: u32,
@@ -29,7 +30,6 @@ struct Case {
     out: usize,
     table: usize,
     reply: usize,
-    session: usize,
     lent: usize,
     set: usize,
     names: usize,
@@ -47,35 +47,32 @@ fn word(input: &[u8], at: usize) -> u32 {
     field::u32_padded(input, at)
 }
 
-// A length at a place, at most what is left.
-fn part(input: &[u8], at: usize, from: usize) -> usize
-    requires { ⌜ from ≤ length (now input) ⌝ }
-    ensures { λ r. ⌜ from + r ≤ length (now (input .entry)) ⌝ }
+// The length at a place of the words, at most what is left.
+fn part(words: &[u8], at: usize, from: usize, most: usize) -> usize
+    requires { ⌜ from ≤ most ⌝ }
+    ensures { λ r. ⌜ from + r ≤ most ⌝ }
 {
-    let n = word(input, at) as usize;
-    least(n, input.len() - from)
+    let n = word(words, at) as usize;
+    least(n, most - from)
 }
 
-// The case whose words begin at a place.
-fn case_at(input: &[u8], at: usize) -> Case
-    requires { ⌜ at + 48 ≤ length (now input) ⌝ }
-    ensures { λ r. ⌜ Placed (at + 48) (r .session) (r .lent) (r .set) (r .names) (r .feed) (r .end) (length (now (input .entry))) ⌝ }
+// The case that begins with these words, its parts within so many bytes.
+fn case_of(words: &[u8], most: usize) -> Case
+    ensures { λ r. ⌜ Placed (r .lent) (r .set) (r .names) (r .feed) (r .end) most ⌝ }
 {
-    let session = at + 48;
-    let lent = session + part(input, at + 28, session);
-    let set = lent + part(input, at + 32, lent);
-    let names = set + part(input, at + 36, set);
-    let feed = names + part(input, at + 40, names);
-    let end = feed + part(input, at + 44, feed);
+    let lent = part(words, 28, 0, most);
+    let set = lent + part(words, 32, lent, most);
+    let names = set + part(words, 36, set, most);
+    let feed = names + part(words, 40, names, most);
+    let end = feed + part(words, 44, feed, most);
     Case {
-        mode: word(input, at),
-        command: word(input, at + 4),
-        backend: word(input, at + 8),
-        size: word(input, at + 12) as usize,
-        out: word(input, at + 16) as usize,
-        table: word(input, at + 20) as usize,
-        reply: word(input, at + 24) as usize,
-        session: session,
+        mode: word(words, 0),
+        command: word(words, 4),
+        backend: word(words, 8),
+        size: word(words, 12) as usize,
+        out: word(words, 16) as usize,
+        table: word(words, 20) as usize,
+        reply: word(words, 24) as usize,
         lent: lent,
         set: set,
         names: names,
@@ -169,11 +166,8 @@ fn window_for(s: &[u8]) -> [u8; 48] {
     w
 }
 
-// The session of a case: as opened where s is empty, else made up.
+// A made-up session, opened like this one.
 fn session_for(opened: Session, s: &[u8]) -> Session {
-    if s.len() == 0 {
-        return opened;
-    }
     let opening = opened.opening;
     Session {
         opening: opening,
@@ -185,7 +179,11 @@ fn session_for(opened: Session, s: &[u8]) -> Session {
 }
 
 fn open_for(c: Case) -> Session {
-    host::open(mode_for(c.mode), command_for(c.command), backend_for(c.backend))
+    host::open(
+        mode_for(c.mode),
+        command_for(c.command),
+        backend_for(c.backend),
+    )
 }
 
 fn digit(n: u8) -> u8 {
@@ -464,27 +462,47 @@ fn run(
     s
 }
 
+// One conversation: as opened where the session has no bytes, else made up.
+fn play(
+    opened: Session,
+    size: usize,
+    session: &[u8],
+    lent: &[u8],
+    feed: &[u8],
+    set: &[u8],
+    names: &[u8],
+    table: &mut [u8],
+    reply: &mut [u8],
+    out: &mut [u8],
+) {
+    if session.len() == 0 {
+        run(opened, size, feed, set, names, table, reply, out);
+        return;
+    }
+    fill(table, lent);
+    fill(reply, lent);
+    let s = session_for(opened, session);
+    let last = run(s, size, feed, set, names, table, reply, out);
+    told_session(last);
+}
+
 // One conversation, with buffers of the sizes that it asks for.
 fn replay(input: &[u8], c: Case, table: &mut [u8], reply: &mut [u8], out: &mut [u8])
-    requires { ⌜ Placed 0 (c .session) (c .lent) (c .set) (c .names) (c .feed) (c .end) (length (now input)) ⌝ }
+    requires { ⌜ Placed (c .lent) (c .set) (c .names) (c .feed) (c .end) (length (now input)) ⌝ }
 {
     let t = least(c.table, table.len());
     let y = least(c.reply, reply.len());
     let o = least(c.out, out.len());
-    let session = c.session;
     let lent = c.lent;
     let set = c.set;
     let names = c.names;
     let feed = c.feed;
     let end = c.end;
-    let s = session_for(open_for(c), &input[session..lent]);
-    if session < lent {
-        fill(&mut table[..t], &input[lent..set]);
-        fill(&mut reply[..y], &input[lent..set]);
-    }
-    let last = run(
-        s,
+    play(
+        open_for(c),
         c.size,
+        &input[..lent],
+        &input[lent..set],
         &input[feed..end],
         &input[set..names],
         &input[names..feed],
@@ -492,31 +510,52 @@ fn replay(input: &[u8], c: Case, table: &mut [u8], reply: &mut [u8], out: &mut [
         &mut reply[..y],
         &mut out[..o],
     );
-    if session < lent {
-        told_session(last);
+}
+
+// An empty line between two cases.
+fn gap(cases: u64) {
+    if 0 < cases {
+        io::write_all(1, b"\n");
     }
 }
 
-fn all(input: &[u8], table: &mut [u8], reply: &mut [u8], out: &mut [u8]) {
-    let mut at: usize = 0;
-    while at < input.len() {
-        if input.len() - at < 48 {
+// The next case: its words are read, then its parts. False where there is none.
+fn next(
+    cases: u64,
+    words: &mut [u8],
+    input: &mut [u8],
+    table: &mut [u8],
+    reply: &mut [u8],
+    out: &mut [u8],
+) -> bool {
+    if io::read_full(0, words) < words.len() {
+        return false;
+    }
+    gap(cases);
+    let c = case_of(words, input.len());
+    let end = c.end;
+    if io::read_full(0, &mut input[..end]) < end {
+        return false;
+    }
+    replay(input, c, table, reply, out);
+    true
+}
+
+fn all(words: &mut [u8], input: &mut [u8], table: &mut [u8], reply: &mut [u8], out: &mut [u8]) {
+    let mut cases: u64 = 0;
+    while cases < 1000000000 {
+        if !next(cases, words, input, table, reply, out) {
             return;
         }
-        if 0 < at {
-            io::write_all(1, b"\n");
-        }
-        let c = case_at(input, at);
-        replay(input, c, table, reply, out);
-        at = c.end;
+        cases += 1;
     }
 }
 
 fn main() {
-    let mut input = [0u8; 1048576];
+    let mut words = [0u8; 48];
+    let mut input = [0u8; 131072];
     let mut table = [0u8; 65536];
     let mut reply = [0u8; 8192];
     let mut out = [0u8; 64];
-    let n = io::read_full(0, &mut input);
-    all(&input[..n], &mut table, &mut reply, &mut out);
+    all(&mut words, &mut input, &mut table, &mut reply, &mut out);
 }
