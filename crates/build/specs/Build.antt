@@ -36,6 +36,11 @@ abbrev pub readKind : Width → SaharaCmd
 readKind WI.Bits32 = K.MemRead
 readKind WI.Bits64 = K.MemRead64
 
+-- and its size: 01's MemRead64, "an address and a length of 4 bytes" behind the header
+abbrev pub readSize : Width → ℕ
+readSize WI.Bits32 = 16
+readSize WI.Bits64 = 24
+
 -- the command of each packet; 7, 0x0c and 0x0d are numbers of no decoded kind: Reset, SwitchMode, Execute
 abbrev pub requestNumber : Request → ℕ
 requestNumber (Q.HelloResp m) = kindNumber K.HelloResp
@@ -78,8 +83,7 @@ sizeOf (Q.Execute c) = 12
 sizeOf (Q.ExecuteData c) = 12
 sizeOf Q.SwitchMode = 12
 sizeOf Q.Reset = 8
-sizeOf (Q.MemRead WI.Bits32 a k) = 16
-sizeOf (Q.MemRead WI.Bits64 a k) = 24
+sizeOf (Q.MemRead v a k) = readSize v
 
 -- a build's whole outcome: the answer, and the out buffer afterwards
 pub record BuildOutcome : Type 0 where

@@ -15,7 +15,7 @@ ghost use lib.ListN.{length};
 ghost use lib.Seq.{sets};
 ghost use Rattle.field.specs.Field.{leBytes};
 ghost use Rattle.base.specs.Told.{Tells};
-ghost use Rattle.build.specs.Build.{buildOf, buildOutcome, buildTold, words};
+ghost use Rattle.build.specs.Build.{readSize, buildOf, buildOutcome, buildTold, words};
 
 // What is to be sent.
 pub enum Request {
@@ -161,6 +161,16 @@ pub fn sahara_reset(out: &mut [u8]) -> Built
     }
     sahara_send_generic(out, RESET, 8);
     Built::Send(8)
+}
+
+// The bytes of a memory read.
+pub fn read_size(width: Width) -> usize
+    ensures { λ r. ⌜ r ≡ readSize width ⌝ }
+{
+    match width {
+        Width::Bits32 => 16,
+        Width::Bits64 => 24,
+    }
 }
 
 // MemRead, 16 bytes.

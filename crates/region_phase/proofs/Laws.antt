@@ -5,9 +5,12 @@ use mathlib.Core.Bool.{Bool, true, false, not, _&&_, _||_, true≢false}
 use mathlib.Core.List.{List}
 use Prim.Native.Nat.{ℕ, _+_, _^_, _<_, _≤_}
 use borrow.Author.Tests.{ltb-false, leb-false, ne-eqb}
-use lib.Dec.{ltb, leb, eqb}
+use lib.Dec.{ltb, leb, eqb, lit≤}
 use lib.ListN.{length}
 use Rattle.base.proofs.Ranges.{by-test, by-else}
+use Rattle.field.specs.Field.{fieldSize}
+use Rattle.field.specs.declared.Width.{Width}
+use Rattle.field.specs.declared.Width.the-variants as WI
 use Rattle.verdict.specs.declared.Opening.{Opening}
 use Rattle.session.specs.declared.Region.{Region}
 use Rattle.session.specs.declared.Session.{Session}
@@ -21,6 +24,11 @@ use Rattle.region_phase.specs.Advance.{Advanced, advanced, advanceWithin
 use Rattle.region_phase.specs.declared.Advance.{Advance}
 use Rattle.region_phase.specs.declared.Advance.the-variants as D
 use Rattle.base.proofs.Tests.{neither}
+
+-- no memory is above 2^64
+pub memory-most : (v : Width) → 256 ^ fieldSize v ≤ 256 ^ 8
+memory-most WI.Bits32 = lit≤ tt
+memory-most WI.Bits64 = lit≤ tt
 
 pub record InLimits (f k : ℕ) (x : Region) (t : List ℕ) : Type 0 where
   pub table : k ≤ length t
@@ -57,7 +65,7 @@ module _ (s : Session) (k : ℕ) (x : Region) (d t y : List ℕ) where
   abbrev put : Advanced → Outcome
   put a = onAdvance s k x t y (a .out) (a .advance)
 
-  within-is : (o : List ℕ) → regionOf 8 s k x d t y o ≡ put (advanceWithin (s .opening) (s .reads) x (length d) o)
+  within-is : (o : List ℕ) → regionOf s k x d t y o ≡ put (advanceWithin (s .width) (s .opening) (s .reads) x (length d) o)
   unfolding regionOf askOf nextChunk handOf advanceWithin
   within-is o =
       by-test (x .due) (λ e. rw e refl)
@@ -66,11 +74,11 @@ module _ (s : Session) (k : ℕ) (x : Region) (d t y : List ℕ) where
       (λ b. by-test (leb (x .len) (x .done)) (λ w. rw (e, z, b, w) refl) (λ w. rw (e, z, b, w) refl)))
       (λ z. by-test (eqb (length d) 0) (λ b. rw (e, z, b) refl) (λ b. rw (e, z, b) refl)))
 
-  pub advance-is : (o : List ℕ) → regionStep s k x d t y o ≡ put (advanceOf (s .opening) (s .reads) k x (length d) t o)
+  pub advance-is : (o : List ℕ) → regionStep s k x d t y o ≡ put (advanceOf (s .width) (s .opening) (s .reads) k x (length d) t o)
   unfolding regionStep advanceOf
   advance-is o =
       by-test (ltb (length o) 48) (λ e. rw e refl)
-      (λ e. by-test (ltb (2 ^ 63 + 1) (s .reads) || regionLimit 8 k x t) (λ l. rw (e, l) refl) (λ l. rw (e, l) (within-is o)))
+      (λ e. by-test (ltb (2 ^ 63 + 1) (s .reads) || regionLimit (fieldSize (s .width)) k x t) (λ l. rw (e, l) refl) (λ l. rw (e, l) (within-is o)))
 
 -- ---- what is known by what it comes to
 
@@ -81,8 +89,8 @@ to : {a b : Advance} {o p : List ℕ} → advanced a o ≡ advanced b p → a �
 to q = ap (λ (z : Advanced). z .advance) q
 
 -- the out buffer changes only where the counts do
-module _ (u : Opening) (m : ℕ) (x : Region) (n : ℕ) (o : List ℕ) {v : Advance} {o' : List ℕ} (still : (c : Counted) → v ≡ D.To c → ⊥) where
-  within-still : advanceWithin u m x n o ≡ advanced v o' → o' ≡ o
+module _ (v : Width) (u : Opening) (m : ℕ) (x : Region) (n : ℕ) (o : List ℕ) {a : Advance} {o' : List ℕ} (still : (c : Counted) → a ≡ D.To c → ⊥) where
+  within-still : advanceWithin v u m x n o ≡ advanced a o' → o' ≡ o
   unfolding advanceWithin
   within-still q =
       by-test (x .due) (λ e. left (rw e at q))
@@ -91,23 +99,23 @@ module _ (u : Opening) (m : ℕ) (x : Region) (n : ℕ) (o : List ℕ) {v : Adva
       (λ b. by-test (leb (x .len) (x .done)) (λ w. left (rw (e, z, b, w) at q)) (λ w. absurd (still _ (sym (to (rw (e, z, b, w) at q)))))))
       (λ z. by-test (eqb n 0) (λ b. left (rw (e, z, b) at q)) (λ b. left (rw (e, z, b) at q))))
 
-  pub advance-still : (k : ℕ) (t : List ℕ) → advanceOf u m k x n t o ≡ advanced v o' → o' ≡ o
+  pub advance-still : (k : ℕ) (t : List ℕ) → advanceOf v u m k x n t o ≡ advanced a o' → o' ≡ o
   unfolding advanceOf
   advance-still k t q =
       by-test (ltb (length o) 48) (λ e. left (rw e at q))
-      (λ e. by-test (ltb (2 ^ 63 + 1) m || regionLimit 8 k x t) (λ l. left (rw (e, l) at q)) (λ l. within-still (rw (e, l) at q)))
+      (λ e. by-test (ltb (2 ^ 63 + 1) m || regionLimit (fieldSize v) k x t) (λ l. left (rw (e, l) at q)) (λ l. within-still (rw (e, l) at q)))
 
 -- what is not refused has room, and every count is within its limit
-pub record Passed (m k : ℕ) (x : Region) (t o : List ℕ) : Type 0 where
+pub record Passed (v : Width) (m k : ℕ) (x : Region) (t o : List ℕ) : Type 0 where
   pub room : 48 ≤ length o
   pub reads : m ≤ 2 ^ 63 + 1
-  pub within : InLimits 8 k x t
+  pub within : InLimits (fieldSize v) k x t
 
-pub advance-passed : (u : Opening) (m k : ℕ) (x : Region) (n : ℕ) (t o : List ℕ) {a : Advanced}
-    → ((why : ℕ) → advanced (D.Refused why) o ≡ a → ⊥) → advanceOf u m k x n t o ≡ a → Passed m k x t o
+pub advance-passed : (v : Width) (u : Opening) (m k : ℕ) (x : Region) (n : ℕ) (t o : List ℕ) {a : Advanced}
+    → ((why : ℕ) → advanced (D.Refused why) o ≡ a → ⊥) → advanceOf v u m k x n t o ≡ a → Passed v m k x t o
 unfolding advanceOf
-advance-passed u m k x n t o never q =
+advance-passed v u m k x n t o never q =
     let r = by-else (ltb (length o) 48) _ _ (never 3) q in
-    let l = by-else (ltb (2 ^ 63 + 1) m || regionLimit 8 k x t) _ _ (never 18) (r .1) in
-    let b = neither (ltb (2 ^ 63 + 1) m) (regionLimit 8 k x t) (l .0) in
-    record { room = ltb-false (length o) 48 (r .0); reads = ltb-false (2 ^ 63 + 1) m (b .0); within = region-within 8 k x t (b .1) }
+    let l = by-else (ltb (2 ^ 63 + 1) m || regionLimit (fieldSize v) k x t) _ _ (never 18) (r .1) in
+    let b = neither (ltb (2 ^ 63 + 1) m) (regionLimit (fieldSize v) k x t) (l .0) in
+    record { room = ltb-false (length o) 48 (r .0); reads = ltb-false (2 ^ 63 + 1) m (b .0); within = region-within (fieldSize v) k x t (b .1) }

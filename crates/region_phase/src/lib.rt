@@ -1,5 +1,5 @@
 // The phase in a region of a dump: chunk by chunk it is asked for and handed out, then closed.
-use build::Request;
+use build::read_size;
 use build::sahara_send_mem_read;
 use chunk::chunk_size;
 use chunk::due_after;
@@ -28,7 +28,6 @@ ghost use lib.ListN.{length};
 ghost use Rattle.field.specs.Field.{fieldSize};
 ghost use Rattle.entry.specs.Entry.{there};
 ghost use Rattle.filename.specs.Filename.{afterOpenCheck};
-ghost use Rattle.build.specs.Build.{sizeOf};
 ghost use Rattle.base.specs.Told.{Tells};
 ghost use Rattle.session.specs.Answers.{outcomeTold};
 ghost use Rattle.session.specs.Outcome.{gives, outcome};
@@ -62,16 +61,6 @@ fn recount(x: Region, done: u64, outstanding: u64, due: bool) -> Region
     }
 }
 
-// The bytes of a memory read.
-fn read_size(width: Width) -> usize
-    ensures { λ r. ⌜ ((a k : ℕ) → r ≡ sizeOf (Request.MemRead width a k)) ⌝ }
-{
-    match width {
-        Width::Bits32 => 16,
-        Width::Bits64 => 24,
-    }
-}
-
 // No bytes are outstanding and some are left: the next memory read.
 fn ask(width: Width, opening: Opening, reads: u64, x: Region, out: &mut [u8]) -> Counted
     requires { ⌜ (48 ≤ length (now out)) × (x .done < x .len) × (x .base + x .len ≤ 256 ^ fieldSize width) × (reads ≤ 2 ^ 63 + 1) ⌝ }
@@ -80,7 +69,7 @@ fn ask(width: Width, opening: Opening, reads: u64, x: Region, out: &mut [u8]) ->
     let most = chunk_size(opening);
     let rest = (x.len - x.done) as usize;
     let n = least(most, rest) as u64;
-    let sent = sahara_send_mem_read(out, width, x.base + x.done, n);
+    sahara_send_mem_read(out, width, x.base + x.done, n);
     Counted {
         region: recount(x, x.done, n, false),
         reads: reads + 1,

@@ -9,6 +9,7 @@ use native.Mathlib.Omega.{arith}
 use borrow.Author.Tests.{le-leb, ltb-false, eq-eqb, ne-eqb}
 use lib.Dec.{ltb, eqb}
 use lib.ListN.{length}
+use Rattle.field.specs.Field.{fieldSize}
 use Rattle.base.specs.Choice.{pick}
 use Rattle.base.proofs.Tests.{neither}
 use Rattle.entry.specs.Entry.{entrySize, entryOf, there, decoded, entryAt}
@@ -52,7 +53,7 @@ module _ (s : Session) (p : Phase) (t y o : List ℕ) (x : Outcome) where
   by-number false true n e = rw e refl
   by-number false false n e = rw e refl
 
-  module _ {n : ℕ} {limited : Bool} (e : n ≡ refusalOf s limited o) (l : limited ≡ phaseLimit 8 (s .window) p t y) where
+  module _ {n : ℕ} {limited : Bool} (e : n ≡ refusalOf s limited o) (l : limited ≡ phaseLimit (fieldSize (s .width)) (s .window) p t y) where
     -- the guard is its number
     guard-is : pick (eqb n 0) x (untouched s n t y o) ≡ guarded s p t y o x
     unfolding refusalOf

@@ -4,6 +4,7 @@ use lib.Dec.{ltb}
 use lib.ListN.{length}
 use denote.Ref.{now}
 use borrow.Author.Tests.{ltb-false}
+use Rattle.field.specs.Field.{fieldSize}
 use Rattle.base.proofs.Telling.{tells}
 use Rattle.session.specs.Answers.{outcomeTold}
 use Rattle.session.specs.declared.Phase.the-variants as P
@@ -43,7 +44,7 @@ next-region-requires c κs =
     let a = b .before .before .before .before .before .args in
     let w = passed (a .s) _ (now (a .out)) (g .guard .ensures) (c .if1 .left) in
     let n = length (now (a .table)) in
-    ltb-false n (a .k) (neither (ltb n (a .k)) (ltb (entriesIn 8 (a .k)) (a .i)) (sym (b .between-limit .ensures) ∙ w .counts) .0)
+    ltb-false n (a .k) (neither (ltb n (a .k)) (ltb (entriesIn (fieldSize (a .s .width)) (a .k)) (a .i)) (sym (b .between-limit .ensures) ∙ w .counts) .0)
 
 returns-2 : tie.Need-returns-2
 unfolding betweenStep

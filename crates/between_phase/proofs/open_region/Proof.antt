@@ -1,6 +1,7 @@
 -- `between_phase::open_region` meets its contract: the entry is there, so its own fields are told. Assumes nothing.
 use mathlib.Core.Path.{_≡_, ap, sym, _∙_}
 use denote.Ref.{now}
+use Rattle.field.specs.Field.{fieldSize}
 use Rattle.entry.specs.Entry.{entryOf, filenameOf, decoded}
 use Rattle.entry.specs.declared.RamdumpTable64.{RamdumpTable64}
 use Rattle.filename.specs.Filename.{openCheck}
@@ -11,14 +12,14 @@ use Rattle.between_phase.proofs.open_region.Tie as tie
 
 -- the entry that was read is the table's
 read : (c : tie.After-entry-at) → (let a = c .before .before .args in
-    c .entry-at .result .entry ≡ decoded 8 (entryOf 8 (now (a .table)) (a .i)))
+    c .entry-at .result .entry ≡ decoded (fieldSize (a .s .width)) (entryOf (fieldSize (a .s .width)) (now (a .table)) (a .i)))
 read c =
     let b = c .before .before in
-    entry-told 8 (now (b .args .table)) (b .args .i) (c .entry-at .ensures) (b .pre)
+    entry-told (fieldSize (b .args .s .width)) (now (b .args .table)) (b .args .i) (c .entry-at .ensures) (b .pre)
 
 -- so is the name that was tested
 tested : (c : tie.After-check-open) → (let a = c .before .before .before .before .before .before .args in
-    c .check-open .result ≡ openCheck (filenameOf 8 (entryOf 8 (now (a .table)) (a .i))))
+    c .check-open .result ≡ openCheck (filenameOf (fieldSize (a .s .width)) (entryOf (fieldSize (a .s .width)) (now (a .table)) (a .i))))
 tested c = c .check-open .ensures .is ∙ ap (λ (e : RamdumpTable64). openCheck (e .filename)) (read (c .before .before .before .before))
 
 entry-at-requires : tie.Need-entry-at-requires

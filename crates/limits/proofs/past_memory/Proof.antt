@@ -1,28 +1,26 @@
--- `limits::past_memory` meets its contract: for a length above 0, the test of the differences is the one of the sum. Assumes nothing.
-use mathlib.Core.Path.{sym}
-use Prim.Native.Nat.{_+_, _-_, _^_}
-use native.Mathlib.Omega.{arith}
-use borrow.Author.Tests.{le-ltb}
+-- `limits::past_memory` meets its contract: by the width. Assumes nothing.
 use borrow.Author.Needs.{needs}
-use Rattle.limits.proofs.Laws.{same-ltb}
 use Rattle.limits.proofs.past_memory.Statement.{statement}
 use Rattle.limits.proofs.past_memory.Tie as tie
 
+enum-told : tie.Need-enum-told
+enum-told c = search needs
+
+past32-requires : tie.Need-past32-requires
+past32-requires c κs = search needs
+
+enum-told-2 : tie.Need-enum-told-2
+enum-told-2 c = search needs
+
+past64-requires : tie.Need-past64-requires
+past64-requires c κs = search needs
+
 returns : tie.Need-returns
-returns c =
-    let a = c .before .args in
-    sym (le-ltb (256 ^ 8) (a .base + a .len) (omega arith))
-
-sub-result : tie.Need-sub-result
-sub-result c = search needs
-
-sub-result-2 : tie.Need-sub-result-2
-sub-result-2 c = search needs
+returns c = rw (c .before .enum-told .given .1) (c .past32 .ensures)
 
 returns-2 : tie.Need-returns-2
-returns-2 c =
-    let a = c .before .args in
-    same-ltb (18446744073709551615 - a .base) (a .len - 1) (256 ^ 8) (a .base + a .len) (λ h. omega arith) (λ h. omega arith)
+returns-2 c = rw (c .before .enum-told2 .given .1) (c .past64 .ensures)
 
 pub past-memory-spec : {M : Type 1} → statement M
-past-memory-spec = tie.close (tie.spec returns sub-result sub-result-2 returns-2)
+past-memory-spec =
+    tie.close (tie.spec enum-told past32-requires enum-told-2 past64-requires returns returns-2)

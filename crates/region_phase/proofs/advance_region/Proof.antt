@@ -4,6 +4,7 @@ use Prim.Native.Nat.{_+_, _^_}
 use native.Mathlib.Omega.{arith}
 use denote.Ref.{now}
 use borrow.Author.Tests.{lt-ltb, le-ltb, ltb-false}
+use Rattle.field.specs.Field.{fieldSize}
 use Rattle.region_phase.specs.Advance.{advanceOf}
 use Rattle.region_phase.proofs.Laws.{region-within}
 use borrow.Author.Needs.{needs}
@@ -36,7 +37,7 @@ advance-within-requires c κs =
     let l = c .before in
     let r = l .before .before in
     let a = r .before .before .before .before .before .args in
-    let w = region-within 8 (a .k) (a .x) (now (a .table)) (sym (l .before .region-limit .ensures) ∙ l .if3 .left) in (
+    let w = region-within (fieldSize (a .width)) (a .k) (a .x) (now (a .table)) (sym (l .before .region-limit .ensures) ∙ l .if3 .left) in (
       omega arith,
       ltb-false (2 ^ 63 + 1) (a .reads) (sym (r .before .reads-limit .ensures) ∙ r .if2 .left),
       w .counts,

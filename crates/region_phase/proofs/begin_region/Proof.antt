@@ -7,11 +7,11 @@ use native.Mathlib.Omega.{arith}
 use lib.Dec.{ltb}
 use denote.Ref.{now}
 use borrow.Author.Tests.{ltb-false, le-leb, lt-leb}
-use Rattle.entry.specs.Entry.{entryOf, filenameOf}
+use Rattle.field.specs.Field.{fieldSize}
 use Rattle.entry.specs.declared.RamdumpTable64.{RamdumpTable64}
 use Rattle.entry.proofs.Laws.{there-fits}
 use Rattle.filename.specs.Filename.{afterOpenCheck}
-use Rattle.session.specs.RegionPhase.{nextChunk}
+use Rattle.session.specs.RegionPhase.{nextChunk, nameIn}
 use Rattle.turn.proofs.Laws.{entry-told}
 use borrow.Author.Needs.{needs}
 use Rattle.region_phase.proofs.begin_region.Statement.{statement}
@@ -23,12 +23,12 @@ begun c = c .before .before .before .before .before .before .before
 
 -- there the name that was tested is the entry's
 tested : (c : tie.After-check-after-open) → (let a = begun c .args in
-    c .check-after-open .result ≡ afterOpenCheck (filenameOf 8 (entryOf 8 (now (a .table)) (a .x .entry))))
+    c .check-after-open .result ≡ afterOpenCheck (nameIn (a .s .width) (now (a .table)) (a .x)))
 tested c =
     let a = begun c .args in
     c .check-after-open .ensures .is
     ∙ ap (λ (e : RamdumpTable64). afterOpenCheck (e .filename))
-    (entry-told 8 (now (a .table)) (a .x .entry) (c .before .before .before .before .entry-at .ensures) (begun c .pre .1))
+    (entry-told (fieldSize (a .s .width)) (now (a .table)) (a .x .entry) (c .before .before .before .before .entry-at .ensures) (begun c .pre .1))
 
 entry-at-requires : tie.Need-entry-at-requires
 entry-at-requires c κs = search needs
@@ -57,22 +57,26 @@ enum-told c = search needs
 past-memory-requires : tie.Need-past-memory-requires
 past-memory-requires c κs = search needs
 
+past-end-requires : tie.Need-past-end-requires
+past-end-requires c κs = search needs
+
 moved-requires-2 : tie.Need-moved-requires-2
 moved-requires-2 c κs = search needs
 
 returns-2 : tie.Need-returns-2
 returns-2 c =
     λ y.
-    let m = c .before .before in
+    let e = c .before .before in
+    let m = e .before in
     let k = m .before .before .before in
     let a = begun k .args in
-    let z : ltb (256 ^ 8) (a .x .base + a .x .len) ≡ true = sym (m .past-memory .ensures) ∙ c .before .if1 .taken in
-    simp (sym (tested k) ∙ m .before .enum-told .given .1, z, c .moved2 .ensures)
+    let z : ltb (256 ^ fieldSize (a .s .width)) (a .x .base + a .x .len) ≡ true = sym (m .past-memory .ensures) ∙ e .if1 .taken in
+    simp (sym (tested k) ∙ m .before .enum-told .given .1, z, c .moved2 .ensures, c .before .past-end .ensures)
 
 close-requires : tie.Need-close-requires
 close-requires c κs =
     let b = begun (c .before .before .before .before .before .before) in
-    let h = there-fits 8 (now (b .args .table)) (b .args .x .entry) (b .pre .1) in
+    let h = there-fits (fieldSize (b .args .s .width)) (now (b .args .table)) (b .args .x .entry) (b .pre .1) in
     omega arith
 
 returns-3 : tie.Need-returns-3
@@ -83,7 +87,7 @@ returns-3 c =
     let m = e .before in
     let k = m .before .before .before in
     let a = begun k .args in
-    let z : ltb (256 ^ 8) (a .x .base + a .x .len) ≡ false = sym (m .past-memory .ensures) ∙ e .if1 .left in
+    let z : ltb (256 ^ fieldSize (a .s .width)) (a .x .base + a .x .len) ≡ false = sym (m .past-memory .ensures) ∙ e .if1 .left in
     simp (sym (tested k) ∙ m .before .enum-told .given .1, z, le-leb _ _ (c .before .if2 .taken), c .close .ensures)
 
 ask-requires : tie.Need-ask-requires
@@ -92,7 +96,7 @@ ask-requires c κs =
     let m = e .before in
     let b = begun (m .before .before .before) in
     let x = b .args .x in
-    (b .pre .0, omega arith, ltb-false (256 ^ 8) (x .base + x .len) (sym (m .past-memory .ensures) ∙ e .if1 .left), b .pre .2)
+    (b .pre .0, omega arith, ltb-false (256 ^ fieldSize (b .args .s .width)) (x .base + x .len) (sym (m .past-memory .ensures) ∙ e .if1 .left), b .pre .2)
 
 counted-in-requires : tie.Need-counted-in-requires
 counted-in-requires c κs = search needs
@@ -110,7 +114,7 @@ returns-4 c =
     let m = e .before in
     let k = m .before .before .before in
     let a = begun k .args in
-    let z : ltb (256 ^ 8) (a .x .base + a .x .len) ≡ false = sym (m .past-memory .ensures) ∙ e .if1 .left in
+    let z : ltb (256 ^ fieldSize (a .s .width)) (a .x .base + a .x .len) ≡ false = sym (m .past-memory .ensures) ∙ e .if1 .left in
     simp (sym (tested k) ∙ m .before .enum-told .given .1, z, lt-leb _ _ (w .if2 .left), c .counted-in .ensures, r .ask .ensures .0, r .ask .ensures .1)
 
 pub begin-region-spec : {M : Type 1} → statement M
@@ -125,6 +129,7 @@ begin-region-spec =
     returns
     enum-told
     past-memory-requires
+    past-end-requires
     moved-requires-2
     returns-2
     close-requires

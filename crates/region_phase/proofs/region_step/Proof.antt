@@ -2,9 +2,12 @@
 use mathlib.Core.Path.{_≡_, sym, ap, _∙_}
 use native.Mathlib.Omega.{arith}
 use mathlib.Core.List.{List}
-use Prim.Native.Nat.{ℕ}
+use Prim.Native.Nat.{ℕ, _+_, _*_, _≤_}
+use native.Mathlib.Nat.{le-div-iff-mul-le}
 use denote.Ref.{now}
 use lib.ListN.{length}
+use Rattle.field.specs.Field.{fieldSize}
+use Rattle.entry.specs.Entry.{entrySize}
 use Rattle.session.specs.declared.Stepped.{Stepped}
 use Rattle.base.proofs.Telling.{tells}
 use Rattle.session.specs.Answers.{outcomeTold}
@@ -24,7 +27,7 @@ abbrev begun : tie.After-advance-region → tie.Start
 begun g = g .before .before .before .before .before .before .before
 
 abbrev after : tie.After-advance-region → List ℕ
-after g = g .advance-region .last .1 .1 .1 .1 .1 .1 .0
+after g = g .advance-region .last .1 .1 .1 .1 .1 .1 .1 .0
 
 -- put into the session, what it came to is the step
 put-is : (g : tie.After-advance-region) (v : Advance) → g .advance-region .result ≡ v → (let a = begun g .args in
@@ -38,10 +41,10 @@ put-is g v e =
 
 -- what is begun or closed is not refused
 passed : (g : tie.After-advance-region) (v : Advance) → g .advance-region .result ≡ v → ((why : ℕ) → D.Refused why ≡ v → ⊥)
-    → (let a = begun g .args in Passed (a .s .reads) (a .k) (a .x) (now (a .table)) (now (a .out)))
+    → (let a = begun g .args in Passed (a .s .width) (a .s .reads) (a .k) (a .x) (now (a .table)) (now (a .out)))
 passed g v e never =
     let a = begun g .args in
-    advance-passed (a .s .opening) (a .s .reads) (a .k) (a .x) (length (now (a .delivery))) (now (a .table)) (now (a .out))
+    advance-passed (a .s .width) (a .s .opening) (a .s .reads) (a .k) (a .x) (length (now (a .delivery))) (now (a .table)) (now (a .out))
     (λ why q. never why (ap (λ (z : Advanced). z .advance) q ∙ e)) (sym (g .advance-region .ensures))
 
 advance-region-requires : tie.Need-advance-region-requires
@@ -76,10 +79,10 @@ begin-region-requires c κs =
     let e = s .enum-told2 .given .1 in
     let p = passed g D.Begins e (λ why q. let z : _≡_ {A = ℕ} 0 1 = cc in omega arith) in
     let h : after g ≡ now (a .out) =
-    advance-still (a .s .opening) (a .s .reads) (a .x) (length (now (a .delivery))) (now (a .out)) (λ n q. let z : _≡_ {A = ℕ} 0 1 = cc in omega arith)
+    advance-still (a .s .width) (a .s .opening) (a .s .reads) (a .x) (length (now (a .delivery))) (now (a .out)) (λ n q. let z : _≡_ {A = ℕ} 0 1 = cc in omega arith)
     (a .k) (now (a .table)) (sym (g .advance-region .ensures) ∙ ap (λ (z : Advance). advanced z (after g)) e) in
     let w = p .within in
-    (omega (arith, ap length h, p .room), entry-within 8 (a .k) (a .x .entry) (now (a .table)) (w .entry) (w .table), p .reads)
+    (omega (arith, ap length h, p .room), entry-within (fieldSize (a .s .width)) (a .k) (a .x .entry) (now (a .table)) (w .entry) (w .table), p .reads)
 
 enum-told-3 : tie.Need-enum-told-3
 enum-told-3 c = search needs
@@ -87,8 +90,11 @@ enum-told-3 c = search needs
 close-requires : tie.Need-close-requires
 close-requires c κs =
     let g = c .before .before .before .before in
+    let a = begun g .args in
     let p = passed g D.Closes (c .enum-told3 .given .1) (λ why q. let z : _≡_ {A = ℕ} 0 1 = cc in omega arith) in
     let w = p .within in
+    let n : ℕ = entrySize (fieldSize (a .s .width)) in
+    let h : (a .x .entry + 1) * n ≤ a .k = le-div-iff-mul-le {k = n} (omega arith) .0 (omega arith) in
     omega arith
 
 same-length : tie.Need-same-length
