@@ -1,8 +1,8 @@
 // Replays conversations from standard input and prints a line a step: bytes taken, answer, number, and what else the answer tells.
 // A conversation is twelve words (mode, command or 4, backend, delivery size, sizes of the out, table and reply buffers, lengths of the session, of what the
-// table and reply buffers begin with, of the image set, the names and the device's bytes) and these five. A session of no bytes is one as opened. Else it is
-// made up: ten numbers of 8 bytes (phase, width, memory reads; count, at, base, len, done, outstanding, due, as they cross to C) and the window; the buffers hold
-// zeros behind what they begin with, and a last line tells the session.
+// table and reply buffers begin with, of the image set, the names and the device's bytes) and these five. A session of no bytes is one as opened. Else
+// the buffers hold zeros behind what they begin with, and a last line tells the session; of fewer than 80 bytes it is as opened too, of others made up: ten numbers
+// of 8 bytes (phase, width, memory reads; count, at, base, len, done, outstanding, due, as they cross to C) and the window.
 use command::CommandOf;
 use command::ModeOf;
 use command::SaharaMode;
@@ -157,17 +157,19 @@ fn fill(d: &mut [u8], s: &[u8]) {
     }
 }
 
-fn window_for(s: &[u8]) -> [u8; 48] {
+fn window_for(s: &[u8]) -> [u8; 48]
+    requires { ⌜ 80 ≤ length (now s) ⌝ }
+{
     let mut w = [0u8; 48];
-    if s.len() < 80 {
-        return w;
-    }
     fill(&mut w, &s[80..]);
     w
 }
 
 // A made-up session, opened like this one.
 fn session_for(opened: Session, s: &[u8]) -> Session {
+    if s.len() < 80 {
+        return opened;
+    }
     let opening = opened.opening;
     Session {
         opening: opening,
@@ -462,7 +464,7 @@ fn run(
     s
 }
 
-// One conversation: as opened where the session has no bytes, else made up.
+// One conversation. The session is told at its end where the case has one.
 fn play(
     opened: Session,
     size: usize,
