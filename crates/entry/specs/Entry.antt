@@ -52,6 +52,9 @@ decoded f e =
 abbrev pub nothing : RamdumpTable64
 nothing = record { «save_pref» = 0; base = 0; len = 0; description = replicate 20 0; filename = replicate 20 0 }
 
+abbrev pub missing : EntryAt
+missing = record { there = false; entry = nothing }
+
 -- entry i of a table, decoded
 unfoldable pub entryAt : ℕ → List ℕ → ℕ → EntryAt
-entryAt f t i = pick (there f t i) (record { there = true; entry = decoded f (entryOf f t i) }) (record { there = false; entry = nothing })
+entryAt f t i = pick (there f t i) (record { there = true; entry = decoded f (entryOf f t i) }) missing

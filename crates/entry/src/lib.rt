@@ -7,7 +7,7 @@ ghost use mathlib.Core.Path.{_≡_};
 ghost use Prim.Native.Nat.{_+_, _/_, _≤_};
 ghost use lib.ListN.{length, take, drop};
 ghost use Rattle.field.specs.Field.{le, fieldSize};
-ghost use Rattle.entry.specs.Entry.{entrySize, decoded, nothing, entryAt};
+ghost use Rattle.entry.specs.Entry.{entrySize, decoded, missing, entryAt};
 
 // An entry; the numbers of 32 bits are widened.
 pub struct RamdumpTable64 {
@@ -89,15 +89,18 @@ fn decode(table: &[u8], width: Width, at: usize) -> RamdumpTable64
 }
 
 // Stands for an entry that is not there.
-fn zeros() -> RamdumpTable64
-    ensures { λ r. ⌜ r ≡ nothing ⌝ }
+pub fn no_entry() -> EntryAt
+    ensures { λ r. ⌜ r ≡ missing ⌝ }
 {
-    RamdumpTable64 {
-        save_pref: 0,
-        base: 0,
-        len: 0,
-        description: [0u8; 20],
-        filename: [0u8; 20],
+    EntryAt {
+        there: false,
+        entry: RamdumpTable64 {
+            save_pref: 0,
+            base: 0,
+            len: 0,
+            description: [0u8; 20],
+            filename: [0u8; 20],
+        },
     }
 }
 
@@ -106,11 +109,7 @@ pub fn entry_at(table: &[u8], width: Width, i: usize) -> EntryAt
     ensures { λ r. ⌜ r ≡ entryAt (fieldSize width) (now (table .entry)) i ⌝ }
 {
     if entries_in(width, table.len()) <= i {
-        let entry = zeros();
-        return EntryAt {
-            there: false,
-            entry,
-        };
+        return no_entry();
     }
     let entry = decode(table, width, entry_size(width) * i);
     EntryAt { there: true, entry }

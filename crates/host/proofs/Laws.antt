@@ -12,6 +12,7 @@ use Rattle.session.specs.declared.Phase.the-variants as P
 use Rattle.session.specs.declared.Session.{Session}
 use Rattle.session.specs.declared.Answer.the-variants as A
 use Rattle.session.specs.Outcome.{ended, gives, isEnded, untouched}
+use Rattle.field.specs.Field.{fieldSize}
 use Rattle.session.specs.Limits.{readsLimit, phaseLimit, limitOf}
 use Rattle.session.specs.Step.{onPhase, stepOf, closedOf}
 use Rattle.host.specs.Host.{phaseStep}
@@ -23,7 +24,7 @@ module _ (s : Session) (d set names t y o : List ℕ) where
   rest : (p : Phase)
       → pick (ltb (length o) 48) (untouched s 3 t y o)
       (pick (isEnded p) (untouched s 4 t y o)
-      (pick (readsLimit s || phaseLimit 8 (s .window) p t y) (untouched s 18 t y o) (onPhase s p d set names t y o)))
+      (pick (readsLimit s || phaseLimit (fieldSize (s .width)) (s .window) p t y) (untouched s 18 t y o) (onPhase s p d set names t y o)))
       ≡ phaseStep s d set names t y o p
   unfolding packetStep responseStep switchedStep tableStep betweenStep regionStep
   rest (P.Packet h) = refl

@@ -8,6 +8,8 @@ use borrow.Author.Tests.{eqb-true, eqb-false, ltb-true}
 use lib.Dec.{ltb, eqb}
 use Rattle.base.specs.Choice.{pick}
 use Rattle.base.proofs.Ranges.{by-test, by-then}
+use Rattle.field.specs.declared.Width.{Width}
+use Rattle.field.specs.declared.Width.the-variants as WI
 use Rattle.command.specs.Command.{modeNumber, modeOf, commandOf}
 use Rattle.command.specs.declared.SaharaMode.{SaharaMode}
 use Rattle.command.proofs.Laws.{mode-back, command-back, by-four}
@@ -31,6 +33,9 @@ use Rattle.raw.specs.Raw.{
   isMode,
   isExec,
   isOpening,
+  widthNumber,
+  widthOf,
+  isWidth,
   counts,
   countsOf,
   phaseOf,
@@ -63,6 +68,10 @@ backend-back U.Usb = refl
 pub opening-back : (u : Opening) → openingOf (modeNumber (u .mode)) (execNumber (u .command)) (backendNumber (u .backend)) ≡ u
 opening-back u = rw (mode-back (u .mode), exec-back (u .command), backend-back (u .backend)) refl
 
+width-back : (v : Width) → widthOf (widthNumber v) ≡ v
+width-back WI.Bits32 = refl
+width-back WI.Bits64 = refl
+
 bit-back : (b : Bool) → eqb (pick b 1 0) 1 ≡ b
 bit-back true = refl
 bit-back false = refl
@@ -79,7 +88,7 @@ phase-back s (P.Ended k) = refl
 
 pub session-back : (s : Session) → sessionOf (rawOf s) ≡ s
 unfolding sessionOf rawOf
-session-back s = rw (opening-back (s .opening), phase-back s (s .phase)) refl
+session-back s = rw (opening-back (s .opening), width-back (s .width), phase-back s (s .phase)) refl
 
 -- ---- they are a session's
 
@@ -95,6 +104,10 @@ backend-is : (b : QdlBackend) → ltb (backendNumber b) 2 ≡ true
 backend-is U.Serial = refl
 backend-is U.Usb = refl
 
+width-is : (v : Width) → isWidth (widthNumber v) ≡ true
+width-is WI.Bits32 = refl
+width-is WI.Bits64 = refl
+
 phase-is : (s : Session) (p : Phase) → isPhase (rawWith s (countsOf p)) ≡ true
 unfolding isPhase
 phase-is s (P.Packet h) = refl
@@ -108,7 +121,7 @@ phase-is s (P.Ended k) = refl
 pub session-is : (s : Session) → isSession (rawOf s) ≡ true
 unfolding isSession rawOf
 session-is s =
-    rw (mode-is (s .opening .mode), exec-is (s .opening .command), backend-is (s .opening .backend)) (phase-is s (s .phase))
+    rw (mode-is (s .opening .mode), exec-is (s .opening .command), backend-is (s .opening .backend), width-is (s .width)) (phase-is s (s .phase))
 
 -- ---- numbers that are a session's are those of the session that they are read as
 
@@ -132,6 +145,9 @@ below-two n h e = omega (arith, ltb-true n 2 h, eqb-false n 1 e)
 
 backend-kept : (n : ℕ) → ltb n 2 ≡ true → backendNumber (backendOf n) ≡ n
 backend-kept n h = by-test (eqb n 1) (λ e. rw (eqb-true n 1 e) refl) (λ e. rw (below-two n h e) refl)
+
+width-kept : (n : ℕ) → isWidth n ≡ true → widthNumber (widthOf n) ≡ n
+width-kept n h = by-test (eqb n 32) (λ e. rw (eqb-true n 32 e) refl) (λ e. rw e (sym (eqb-true n 64 (rw e at h))))
 
 bit-kept : (n : ℕ) → ltb n 2 ≡ true → pick (eqb n 1) 1 0 ≡ n
 bit-kept n h = by-test (eqb n 1) (λ e. rw (eqb-true n 1 e) refl) (λ e. rw (below-two n h e) refl)
@@ -192,10 +208,18 @@ phase-kept r h =
 pub raw-back : (r : RawSession) → isSession r ≡ true → rawOf (sessionOf r) ≡ r
 unfolding isSession rawOf sessionOf
 raw-back r h =
-    let a = by-then (isOpening (r .mode) (r .command) (r .backend)) (isPhase r) false no h in
+    let a = by-then (isOpening (r .mode) (r .command) (r .backend)) _ false no h in
     let m = by-then (isMode (r .mode)) _ false no (a .0) in
     let x = by-then (isExec (r .command)) _ false no (m .1) in
-    rw (mode-kept (r .mode) (m .0), exec-kept (r .command) (x .0), backend-kept (r .backend) (x .1), phase-kept r (a .1)) refl
+    let v = by-then (isWidth (r .width)) (isPhase r) false no (a .1) in
+    rw (
+      mode-kept (r .mode) (m .0),
+      exec-kept (r .command) (x .0),
+      backend-kept (r .backend) (x .1),
+      width-kept (r .width) (v .0),
+      phase-kept r (v .1),
+    )
+    refl
 
 -- a session's refusal, told: its numbers as they were
 pub refused-told : (r : RawSession) (why : ℕ) → isSession r ≡ true → refusedRaw r why ≡ rawStepped (gives (sessionOf r) 0 (A.Refused why))

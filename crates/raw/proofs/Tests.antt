@@ -5,7 +5,7 @@ use Prim.Native.Nat.{ℕ}
 use borrow.Author.Tests.{eq-eqb, ne-eqb}
 use lib.Dec.{ltb, eqb}
 use Rattle.session.specs.declared.Phase.the-variants as P
-use Rattle.raw.specs.Raw.{isMode, isExec, isOpening, phaseOf, noRegion, isPhase, isSession}
+use Rattle.raw.specs.Raw.{isMode, isExec, isOpening, isWidth, phaseOf, noRegion, isPhase, isSession}
 use Rattle.raw.specs.declared.RawSession.{RawSession}
 
 pub only-due : (r : RawSession) → r .base ≡ 0 → r .len ≡ 0 → r .done ≡ 0 → r .outstanding ≡ 0 → eqb (r .due) 0 ≡ noRegion r
@@ -24,9 +24,14 @@ pub unopened : (r : RawSession) → isOpening (r .mode) (r .command) (r .backend
 unfolding isSession
 unopened r e = rw e refl
 
-pub by-phase : (r : RawSession) → isOpening (r .mode) (r .command) (r .backend) ≡ true → isPhase r ≡ isSession r
-unfolding isSession
-by-phase r e = rw e refl
+module _ (r : RawSession) (e : isOpening (r .mode) (r .command) (r .backend) ≡ true) where
+  pub unwide : isWidth (r .width) ≡ false → false ≡ isSession r
+  unfolding isSession
+  unwide w = rw (e, w) refl
+
+  pub by-phase : isWidth (r .width) ≡ true → isPhase r ≡ isSession r
+  unfolding isSession
+  by-phase w = rw (e, w) refl
 
 -- a number that is no phase's
 module _ (r : RawSession) (n0 : r .phase ≡ 0 → ⊥) (n1 : r .phase ≡ 1 → ⊥) (n2 : r .phase ≡ 2 → ⊥)

@@ -6,6 +6,8 @@ use mathlib.Core.Bool.{Bool, true, false}
 use lib.Dec.{ltb, eqb}
 use lib.ListN.{getD, replicate}
 use Rattle.base.specs.Choice.{pick}
+use Rattle.field.specs.declared.Width.{Width}
+use Rattle.field.specs.declared.Width.the-variants as WI
 use Rattle.command.specs.Command.{modeNumber, commandNumber, modeOf, commandOf}
 use Rattle.command.specs.declared.SaharaMode.{SaharaMode}
 use Rattle.command.specs.declared.SaharaMode.the-variants as M
@@ -77,6 +79,19 @@ isExec n = execNamed n (commandOf n)
 
 abbrev pub isOpening : ℕ → ℕ → ℕ → Bool
 isOpening m c b = pick (isMode m) (pick (isExec c) (ltb b 2) false) false
+
+-- ---- the width of the memory debug that came, in bits (document 02, request 2)
+
+abbrev pub widthNumber : Width → ℕ
+widthNumber WI.Bits32 = 32
+widthNumber WI.Bits64 = 64
+
+-- a number that is no width's is read as 64 bits
+abbrev pub widthOf : ℕ → Width
+widthOf n = pick (eqb n 32) WI.Bits32 WI.Bits64
+
+abbrev pub isWidth : ℕ → Bool
+isWidth n = pick (eqb n 32) true (eqb n 64)
 
 -- ---- the phase and its counts: packet 0, response 1, switched 2, table 3, between 4, region 5, ended 6
 
@@ -155,6 +170,7 @@ rawWith s k =
       done = k .done;
       outstanding = k .outstanding;
       due = k .due;
+      width = widthNumber (s .width);
       window = s .window;
     }
 
@@ -164,13 +180,20 @@ rawOf s = rawWith s (countsOf (s .phase))
 
 -- the session that numbers are read as
 unfoldable pub sessionOf : RawSession → Session
-sessionOf r = record { opening = openingOf (r .mode) (r .command) (r .backend); reads = r .reads; window = r .window; phase = phaseOf r }
+sessionOf r =
+    record {
+      opening = openingOf (r .mode) (r .command) (r .backend);
+      reads = r .reads;
+      width = widthOf (r .width);
+      window = r .window;
+      phase = phaseOf r;
+    }
 
 -- whether numbers are a session's
 unfoldable pub isSession : RawSession → Bool
-isSession r = pick (isOpening (r .mode) (r .command) (r .backend)) (isPhase r) false
+isSession r = pick (isOpening (r .mode) (r .command) (r .backend)) (pick (isWidth (r .width)) (isPhase r) false) false
 
--- three numbers and nothing else
+-- three numbers and nothing else, of 64 bits
 abbrev pub bare : ℕ → ℕ → ℕ → RawSession
 bare m c b =
     record {
@@ -186,6 +209,7 @@ bare m c b =
       done = 0;
       outstanding = 0;
       due = 0;
+      width = 64;
       window = replicate 48 0;
     }
 

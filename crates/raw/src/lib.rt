@@ -9,6 +9,7 @@ use command::command_number;
 use command::command_of;
 use command::mode_number;
 use command::mode_of;
+use field::Width;
 use session::Answer;
 use session::Filling;
 use session::Phase;
@@ -30,6 +31,9 @@ ghost use Rattle.raw.specs.Raw.{
   isMode,
   isExec,
   isOpening,
+  widthNumber,
+  widthOf,
+  isWidth,
   counts,
   countsOf,
   fillingIn,
@@ -48,7 +52,7 @@ ghost use Rattle.raw.specs.Raw.{
   refusedRaw,
 };
 
-// Numbers that the phase does not use are 0.
+// Numbers that the phase does not use are 0. The width is 32 or 64.
 #[repr(C)]
 pub struct RawSession {
     pub mode: u32,
@@ -63,6 +67,7 @@ pub struct RawSession {
     pub done: u64,
     pub outstanding: u64,
     pub due: u64,
+    pub width: u64,
     pub window: [u8; 48],
 }
 
@@ -215,8 +220,40 @@ pub fn opened(mode: u32, command: u32, backend: u32) -> RawSession
         done: 0,
         outstanding: 0,
         due: 0,
+        width: 64,
         window: [0u8; 48],
     }
+}
+
+// ---- the width
+
+pub fn width_number(width: Width) -> u64
+    ensures { λ r. ⌜ r ≡ widthNumber width ⌝ }
+{
+    match width {
+        Width::Bits32 => 32,
+        Width::Bits64 => 64,
+    }
+}
+
+// The width that the number names.
+pub fn width_of(n: u64) -> Width
+    ensures { λ r. ⌜ r ≡ widthOf n ⌝ }
+{
+    if n == 32 {
+        return Width::Bits32;
+    }
+    Width::Bits64
+}
+
+// Whether the number names a width.
+pub fn is_width(n: u64) -> bool
+    ensures { λ r. ⌜ r ≡ isWidth n ⌝ }
+{
+    if n == 32 {
+        return true;
+    }
+    n == 64
 }
 
 // ---- the phase
@@ -357,6 +394,9 @@ pub fn is_session(r: RawSession) -> bool
     if !is_opening(r.mode, r.command, r.backend) {
         return false;
     }
+    if !is_width(r.width) {
+        return false;
+    }
     is_phase(r)
 }
 
@@ -365,10 +405,12 @@ pub fn session_of(r: RawSession) -> Session
 {
     let window = r.window;
     let opening = opening_of(r.mode, r.command, r.backend);
+    let width = width_of(r.width);
     let phase = phase_of(r);
     Session {
         opening: opening,
         reads: r.reads,
+        width: width,
         window: window,
         phase: phase,
     }
@@ -382,6 +424,7 @@ pub fn raw_of(s: Session) -> RawSession
     let mode = opening.mode;
     let command = opening.command;
     let backend = opening.backend;
+    let width = s.width;
     let p = s.phase;
     let k = counts_of(p);
     RawSession {
@@ -397,6 +440,7 @@ pub fn raw_of(s: Session) -> RawSession
         done: k.done,
         outstanding: k.outstanding,
         due: k.due,
+        width: width_number(width),
         window: window,
     }
 }

@@ -9,7 +9,8 @@ use lib.Dec.{ltb, leb, eqb}
 use lib.ListN.{length, getD, replicate}
 use Rattle.base.specs.Choice.{pick}
 use Rattle.base.proofs.Ranges.{by-test, by-then, either}
-use Rattle.field.specs.Field.{le}
+use Rattle.field.specs.Field.{le, fieldSize}
+use Rattle.field.specs.declared.Width.{Width}
 use Rattle.bundle.specs.Bundle.{slotsGood, wellFormed}
 use Rattle.command.specs.Command.{modeOf, commandOf}
 use Rattle.verdict.specs.declared.Opening.{Opening}
@@ -27,7 +28,7 @@ use Rattle.region_phase.proofs.Laws.{advance-is}
 use Rattle.host.specs.Host.{phaseStep}
 use Rattle.waiting.specs.Wanted.{wantedIn}
 use Rattle.raw.specs.declared.RawSession.{RawSession}
-use Rattle.raw.specs.Raw.{openingOf, isOpening, regionIn, phaseOf, noRegion, isPhase, rawOf, sessionOf, isSession, toldOf, steppedAt, rawStepped}
+use Rattle.raw.specs.Raw.{openingOf, isOpening, widthOf, isWidth, regionIn, phaseOf, noRegion, isPhase, rawOf, sessionOf, isSession, toldOf, steppedAt, rawStepped}
 use Rattle.raw.proofs.Laws.{raw-back}
 use Rattle.raw_step.specs.RawStep.{rawOutcome, rawOutcomeOf, rawAt, stepRaw, waitsAt, wantedRaw}
 use Rattle.raw_place.specs.Place.{inRegion, regionAt, countedAt}
@@ -42,9 +43,10 @@ phase-region : (r : RawSession) → r .phase ≡ 5 → phaseOf r ≡ P.Region (r
 unfolding phaseOf
 phase-region r p = rw p refl
 
-region-session : (r : RawSession) → isOpening (r .mode) (r .command) (r .backend) ≡ true → r .phase ≡ 5 → ltb (r .due) 2 ≡ true → isSession r ≡ true
+region-session : (r : RawSession) → isOpening (r .mode) (r .command) (r .backend) ≡ true → isWidth (r .width) ≡ true → r .phase ≡ 5 → ltb (r .due) 2 ≡ true
+    → isSession r ≡ true
 unfolding isSession isPhase
-region-session r u p d = rw (u, p) d
+region-session r u v p d = rw (u, v, p) d
 
 empty-formed : (gaps : Bool) → wellFormed gaps (replicate 8 0) ≡ true
 unfolding wellFormed slotsGood le
@@ -56,7 +58,9 @@ unfolding wantedRaw isSession isPhase
 wanted-none h n w p e =
     by-test (isOpening (getD h 0 0) (getD h 1 0) (getD h 2 0))
     (λ o.
-    by-test (ltb (getD n 7 0) 2) (λ d. absurd (true≢false (rw (eq-eqb (getD h 3 0) 5 p, d, o) at e))) (λ d. rw (o, p, d) refl))
+    by-test (isWidth (getD n 8 0))
+    (λ v. by-test (ltb (getD n 7 0) 2) (λ d. absurd (true≢false (rw (eq-eqb (getD h 3 0) 5 p, d, v, o) at e))) (λ d. rw (o, v, p, d) refl))
+    (λ v. rw (o, v) refl))
     (λ o. rw o refl)
 
 -- ---- what a region's step keeps of it
@@ -71,8 +75,8 @@ come-by x (D.Refused why) = x
 come-by x D.Begins = x
 come-by x D.Closes = x
 
-module _ (u : Opening) (m : ℕ) (x : Region) (came : ℕ) (o : List ℕ) where
-  kept-within : place (come-by x (advanceWithin u m x came o .advance)) ≡ place x
+module _ (v : Width) (u : Opening) (m : ℕ) (x : Region) (came : ℕ) (o : List ℕ) where
+  kept-within : place (come-by x (advanceWithin v u m x came o .advance)) ≡ place x
   unfolding advanceWithin
   kept-within =
       by-test (x .due) (λ e. rw e refl)
@@ -81,11 +85,11 @@ module _ (u : Opening) (m : ℕ) (x : Region) (came : ℕ) (o : List ℕ) where
       (λ b. by-test (leb (x .len) (x .done)) (λ l. rw (e, z, b, l) refl) (λ l. rw (e, z, b, l) refl)))
       (λ z. by-test (eqb came 0) (λ b. rw (e, z, b) refl) (λ b. rw (e, z, b) refl)))
 
-  kept : (k : ℕ) (t : List ℕ) → place (come-by x (advanceOf u m k x came t o .advance)) ≡ place x
+  kept : (k : ℕ) (t : List ℕ) → place (come-by x (advanceOf v u m k x came t o .advance)) ≡ place x
   unfolding advanceOf
   kept k t =
       by-test (ltb (length o) 48) (λ e. rw e refl)
-      (λ e. by-test (ltb (2 ^ 63 + 1) m || regionLimit 8 k x t) (λ l. rw (e, l) refl) (λ l. rw (e, l) kept-within))
+      (λ e. by-test (ltb (2 ^ 63 + 1) m || regionLimit (fieldSize v) k x t) (λ l. rw (e, l) refl) (λ l. rw (e, l) kept-within))
 
 -- the session in place
 module _ (h n w : List ℕ) (e : inRegion h n ≡ true) where
@@ -99,7 +103,8 @@ module _ (h n w : List ℕ) (e : inRegion h n ≡ true) where
   is-session =
       let p = by-then (eqb (getD h 3 0) 5) _ _ no e in
       let d = by-then (ltb (getD n 7 0) 2) _ _ no (p .1) in
-      region-session r (d .1) five (d .0)
+      let v = by-then (isWidth (getD n 8 0)) _ _ no (d .1) in
+      region-session r (v .1) (v .0) five (d .0)
 
   -- what is wanted there
   pub wanted-at : waitsAt n ≡ wantedRaw r
@@ -118,7 +123,7 @@ module _ (h n w : List ℕ) (e : inRegion h n ≡ true) where
     put a = onAdvance s (r .count) x t y (a .out) (a .advance)
 
     -- put into the session, the step over its counts is the step
-    put-is : (a : Advanced) → a ≡ advanceOf (openingOf (getD h 0 0) (getD h 1 0) (getD h 2 0)) (getD n 0 0) (getD n 1 0) x (length d) t o
+    put-is : (a : Advanced) → a ≡ advanceOf (widthOf (getD n 8 0)) (openingOf (getD h 0 0) (getD h 1 0) (getD h 2 0)) (getD n 0 0) (getD n 1 0) x (length d) t o
         → rawOutcomeOf (put a) ≡ stepRaw r d set names t y o
     unfolding sessionOf
     put-is a q =
@@ -135,6 +140,7 @@ module _ (h n w : List ℕ) (e : inRegion h n ≡ true) where
           ap (λ (z : RawSession). z .mode) b,
           ap (λ (z : RawSession). z .command) b,
           ap (λ (z : RawSession). z .backend) b,
+          ap (λ (z : RawSession). z .width) b,
           five,
           ap (λ (z : List ℕ). getD z 0 0) k,
           ap (λ (z : List ℕ). getD z 1 0) k,
@@ -142,15 +148,15 @@ module _ (h n w : List ℕ) (e : inRegion h n ≡ true) where
         ) refl
 
     pub counts-are : (c : Counted) (p : List ℕ)
-        → advanced (D.To c) p ≡ advanceOf (openingOf (getD h 0 0) (getD h 1 0) (getD h 2 0)) (getD n 0 0) (getD n 1 0) x (length d) t o
+        → advanced (D.To c) p ≡ advanceOf (widthOf (getD n 8 0)) (openingOf (getD h 0 0) (getD h 1 0) (getD h 2 0)) (getD n 0 0) (getD n 1 0) x (length d) t o
         → rawOutcome (steppedAt (rawAt h (countedAt n c) w) (toldOf (c .taken) (c .answer))) t y p ≡ stepRaw r d set names t y o
     unfolding rawStepped
     counts-are c p q =
-        let k : place (c .region) ≡ place x = ap (λ (a : Advanced). place (come-by x (a .advance))) q ∙ kept _ _ x _ o _ t in
+        let k : place (c .region) ≡ place x = ap (λ (a : Advanced). place (come-by x (a .advance))) q ∙ kept _ _ _ x _ o _ t in
         ap (λ (z : RawSession). rawOutcome (steppedAt z (toldOf (c .taken) (c .answer))) t y p) (sym (raw-counted c k)) ∙ put-is (advanced (D.To c) p) q
 
     pub waits-are : (p : List ℕ)
-        → advanced D.Waits p ≡ advanceOf (openingOf (getD h 0 0) (getD h 1 0) (getD h 2 0)) (getD n 0 0) (getD n 1 0) x (length d) t o
+        → advanced D.Waits p ≡ advanceOf (widthOf (getD n 8 0)) (openingOf (getD h 0 0) (getD h 1 0) (getD h 2 0)) (getD n 0 0) (getD n 1 0) x (length d) t o
         → rawOutcome (steppedAt r (toldOf 0 A.Go)) t y p ≡ stepRaw r d set names t y o
     unfolding rawStepped
     waits-are p q =
@@ -160,10 +166,10 @@ module _ (h n w : List ℕ) (e : inRegion h n ≡ true) where
   pub lent-empty : (d set names t y o : List ℕ) → wellFormed true set ≡ true → wellFormed false names ≡ true
       → stepRaw r d (replicate 8 0) (replicate 8 0) t y o ≡ stepRaw r d set names t y o
   lent-empty d set names t y o f g =
-      let a = advanceOf (openingOf (getD h 0 0) (getD h 1 0) (getD h 2 0)) (getD n 0 0) (getD n 1 0) (regionAt n) (length d) t o in
+      let a = advanceOf (widthOf (getD n 8 0)) (openingOf (getD h 0 0) (getD h 1 0) (getD h 2 0)) (getD n 0 0) (getD n 1 0) (regionAt n) (length d) t o in
       sym (put-is d (replicate 8 0) (replicate 8 0) t y o (empty-formed true) (empty-formed false) a refl) ∙ put-is d set names t y o f g a refl
 
--- ---- the premises can be met: a dump over USB with a chunk of the region done; nothing outstanding, bytes outstanding, an empty read due; and no byte came
+-- ---- the premises can be met, of either width: a dump over USB with a chunk of the region done; nothing outstanding, bytes outstanding, an empty read due; and no byte came
 abbrev counts : Advance → Bool
 counts (D.To c) = true
 counts D.Waits = false
@@ -171,22 +177,25 @@ counts (D.Refused why) = false
 counts D.Begins = false
 counts D.Closes = false
 
-module _ (outstanding due came : ℕ) where
+module _ (outstanding due came width : ℕ) where
   abbrev numbers : List ℕ
-  numbers = 2 ∷ 64 ∷ 0 ∷ 4096 ∷ 10000 ∷ 4096 ∷ outstanding ∷ due ∷ []
+  numbers = 2 ∷ 64 ∷ 0 ∷ 4096 ∷ 10000 ∷ 4096 ∷ outstanding ∷ due ∷ width ∷ []
 
   abbrev head : List ℕ
   head = 2 ∷ 0xFFFFFFFF ∷ 1 ∷ 5 ∷ []
 
   abbrev came-to : Advance
-  came-to = advanceOf (openingOf 2 0xFFFFFFFF 1) 2 64 (regionAt numbers) came (replicate 64 0) (replicate 48 0) .advance
+  came-to = advanceOf (widthOf width) (openingOf 2 0xFFFFFFFF 1) 2 64 (regionAt numbers) came (replicate 64 0) (replicate 48 0) .advance
 
   abbrev met : Bool
   met = pick (inRegion head numbers) (counts came-to) false
 
-counts-met : (met 0 0 0 ≡ true) × (met 4096 0 1 ≡ true) × (met 0 1 0 ≡ true) × (came-to 4096 0 0 ≡ D.Waits)
+abbrev all-met : ℕ → Type 0
+all-met v = (met 0 0 0 v ≡ true) × (met 4096 0 1 v ≡ true) × (met 0 1 0 v ≡ true) × (came-to 4096 0 0 v ≡ D.Waits)
+
+counts-met : all-met 64 × all-met 32
 unfolding advanceOf advanceWithin modeOf commandOf
-counts-met = (refl, refl, refl, refl)
+counts-met = ((refl, refl, refl, refl), (refl, refl, refl, refl))
 
 -- ---- what a step in place tells of the bytes that the next one waits for
 
@@ -217,15 +226,17 @@ none-waits r e =
 
 -- of a session in a region what it wants, of any other session 0
 module _ (h n w : List ℕ) (e : isSession (rawAt h n w) ≡ true) where
-  parts : (isOpening (getD h 0 0) (getD h 1 0) (getD h 2 0) ≡ true) × (isPhase (rawAt h n w) ≡ true)
+  parts : (isOpening (getD h 0 0) (getD h 1 0) (getD h 2 0) ≡ true) × ((isWidth (getD n 8 0) ≡ true) × (isPhase (rawAt h n w) ≡ true))
   unfolding isSession
-  parts = by-then (isOpening (getD h 0 0) (getD h 1 0) (getD h 2 0)) _ _ no e
+  parts =
+      let o = by-then (isOpening (getD h 0 0) (getD h 1 0) (getD h 2 0)) _ _ no e in
+      (o .0, by-then (isWidth (getD n 8 0)) _ _ no (o .1))
 
   dumping : getD h 3 0 ≡ 5 → inRegion h n ≡ true
   unfolding isPhase
-  dumping p = rw (eq-eqb (getD h 3 0) 5 p, rw p at (parts .1), parts .0) refl
+  dumping p = rw (eq-eqb (getD h 3 0) 5 p, rw p at (parts .1 .1), parts .1 .0, parts .0) refl
 
   pub waits-wanted : waitsAt n ≡ pick (eqb (getD h 3 0) 5) (wantedRaw (rawAt h n w)) 0
   waits-wanted =
       by-test (eqb (getD h 3 0) 5) (λ p. rw p (wanted-at h n w (dumping (eqb-true (getD h 3 0) 5 p))))
-      (λ p. rw p (none-waits (rawAt h n w) (other-phase (rawAt h n w) (parts .1) p)))
+      (λ p. rw p (none-waits (rawAt h n w) (other-phase (rawAt h n w) (parts .1 .1) p)))

@@ -22,6 +22,7 @@ use raw_step::OUTSTANDING;
 use raw_step::PHASE;
 use raw_step::READS;
 use raw_step::REGION;
+use raw_step::WIDTH;
 use region_phase::Advance;
 use region_phase::advance_region;
 use session::Answer;
@@ -36,7 +37,7 @@ ghost use Rattle.raw_step.specs.RawStep.{rawOutcome, stepRaw, rawAt, waitsAt, w
 ghost use Rattle.raw_place.specs.Place.{inRegion, readyAt, regionAt, countedAt};
 
 // The numbers of a region's step, and what is told. Those that stay are given back as they are, which the compiler leaves out.
-fn count(numbers: &mut [u64; 8], c: Counted) -> RawTold
+fn count(numbers: &mut [u64; 9], c: Counted) -> RawTold
     ensures { λ r. ⌜ (r ≡ toldOf (c .taken) (c .answer)) × (now (numbers .exit) ≡ countedAt (now (numbers .entry)) c) ⌝ }
 {
     let x = c.region;
@@ -45,6 +46,7 @@ fn count(numbers: &mut [u64; 8], c: Counted) -> RawTold
     let at = numbers[AT];
     let base = numbers[BASE];
     let len = numbers[LEN];
+    let width = numbers[WIDTH];
     *numbers = [
         c.reads,
         count,
@@ -54,24 +56,27 @@ fn count(numbers: &mut [u64; 8], c: Counted) -> RawTold
         x.done,
         x.outstanding,
         bit(x.due),
+        width,
     ];
     told(c.taken, answer)
 }
 
 // The numbers of a session in a region.
-fn in_region(head: &[u32; 4], numbers: &[u64; 8]) -> bool
+fn in_region(head: &[u32; 4], numbers: &[u64; 9]) -> bool
     ensures { λ r. ⌜ r ≡ inRegion (now (head .entry)) (now (numbers .entry)) ⌝ }
 {
     if head[PHASE] == REGION {
         if numbers[DUE] < 2 {
-            return raw::is_opening(head[MODE], head[COMMAND], head[BACKEND]);
+            if raw::is_width(numbers[WIDTH]) {
+                return raw::is_opening(head[MODE], head[COMMAND], head[BACKEND]);
+            }
         }
     }
     false
 }
 
 // The region that the numbers tell.
-fn region_at(numbers: &[u64; 8]) -> Region
+fn region_at(numbers: &[u64; 9]) -> Region
     ensures { λ r. ⌜ r ≡ regionAt (now (numbers .entry)) ⌝ }
 {
     Region {
@@ -98,7 +103,7 @@ fn formed(set: &[u8], names: &[u8]) -> bool
 }
 
 // A session in a region, and none of 1 and 2 refuses its step.
-fn ready(head: &[u32; 4], numbers: &[u64; 8], set: &[u8], names: &[u8]) -> bool
+fn ready(head: &[u32; 4], numbers: &[u64; 9], set: &[u8], names: &[u8]) -> bool
     ensures { λ r. ⌜ r ≡ readyAt (now (head .entry)) (now (numbers .entry)) (now (set .entry)) (now (names .entry)) ⌝ }
 {
     if in_region(head, numbers) {
@@ -108,7 +113,7 @@ fn ready(head: &[u32; 4], numbers: &[u64; 8], set: &[u8], names: &[u8]) -> bool
 }
 
 // The bytes that are outstanding and wait for no empty read.
-fn waits_at(numbers: &[u64; 8]) -> u64
+fn waits_at(numbers: &[u64; 9]) -> u64
     ensures { λ r. ⌜ r ≡ waitsAt (now (numbers .entry)) ⌝ }
 {
     if numbers[DUE] == IS_DUE {
@@ -119,7 +124,7 @@ fn waits_at(numbers: &[u64; 8]) -> u64
 }
 
 // What a step told, and the bytes that the next one waits for.
-fn placed(t: RawTold, numbers: &[u64; 8]) -> RawPlaced
+fn placed(t: RawTold, numbers: &[u64; 9]) -> RawPlaced
     ensures { λ r. ⌜ (toldIn r ≡ t) × (r .waits ≡ waitsAt (now (numbers .entry))) ⌝ }
 {
     RawPlaced {
@@ -131,11 +136,11 @@ fn placed(t: RawTold, numbers: &[u64; 8]) -> RawPlaced
     }
 }
 
-// A step with the session in place: mode, command, backend and phase; reads, count, at, base, len, done, outstanding and due; the window. In a region, what
-// neither begins nor closes it changes only its numbers.
+// A step with the session in place: mode, command, backend and phase; reads, count, at, base, len, done, outstanding, due and width; the window. In a region,
+// what neither begins nor closes it changes only its numbers.
 pub fn step_in_place(
     head: &mut [u32; 4],
-    numbers: &mut [u64; 8],
+    numbers: &mut [u64; 9],
     window: &mut [u8; 48],
     delivery: &[u8],
     set: &[u8],
@@ -166,8 +171,18 @@ pub fn step_in_place(
     }
     let x = region_at(numbers);
     let opening = raw::opening_of(head[MODE], head[COMMAND], head[BACKEND]);
+    let width = raw::width_of(numbers[WIDTH]);
     let k = numbers[COUNT] as usize;
-    let a = advance_region(opening, numbers[READS], k, x, delivery.len(), table, out);
+    let a = advance_region(
+        width,
+        opening,
+        numbers[READS],
+        k,
+        x,
+        delivery.len(),
+        table,
+        out,
+    );
     if let Advance::To(c) = a {
         let t = count(numbers, c);
         return placed(t, numbers);
@@ -203,7 +218,7 @@ pub fn wanted(s: RawSession) -> usize
 }
 
 // The same of a session in place. In a region, where it is asked most, the numbers are at hand.
-pub fn wanted_in_place(head: &[u32; 4], numbers: &[u64; 8], window: &[u8; 48]) -> usize
+pub fn wanted_in_place(head: &[u32; 4], numbers: &[u64; 9], window: &[u8; 48]) -> usize
     ensures { λ r. ⌜ r ≡ wantedRaw (rawAt (now (head .entry)) (now (numbers .entry)) (now (window .entry))) ⌝ }
 {
     if head[PHASE] == REGION {

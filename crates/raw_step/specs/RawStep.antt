@@ -37,7 +37,7 @@ unfoldable pub stepRaw : RawSession → List ℕ → List ℕ → List ℕ → L
 stepRaw r d set names t y o =
     pick (isSession r) (rawOutcomeOf (stepOf (sessionOf r) d set names t y o)) (rawOutcome (refusedRaw r (noSession set names o)) t y o)
 
--- a session in place: mode, command, backend and phase; the eight large numbers; the window
+-- a session in place: mode, command, backend and phase; the nine large numbers; the window
 abbrev pub rawAt : List ℕ → List ℕ → List ℕ → RawSession
 rawAt h n w =
     record {
@@ -53,6 +53,7 @@ rawAt h n w =
       done = getD n 5 0;
       outstanding = getD n 6 0;
       due = getD n 7 0;
+      width = getD n 8 0;
       window = w;
     }
 

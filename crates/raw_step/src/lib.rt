@@ -14,8 +14,8 @@ ghost use Rattle.base.specs.Choice.{pick};
 ghost use Rattle.raw.specs.Raw.{steppedAt};
 ghost use Rattle.raw_step.specs.RawStep.{rawOutcome, stepRaw, rawAt};
 
-// A session in place: head has its mode, command, backend and phase; numbers its memory reads, count, place, base, length, bytes done and outstanding, and
-// whether an empty read is due.
+// A session in place: head has its mode, command, backend and phase; numbers its memory reads, count, place, base, length, bytes done and outstanding,
+// whether an empty read is due, and its width.
 pub const MODE: usize = 0;
 
 pub const COMMAND: usize = 1;
@@ -40,6 +40,8 @@ pub const OUTSTANDING: usize = 6;
 
 pub const DUE: usize = 7;
 
+pub const WIDTH: usize = 8;
+
 // What stands at DUE where an empty read is due; 0 where none is.
 pub const IS_DUE: u64 = 1;
 
@@ -47,7 +49,7 @@ pub const IS_DUE: u64 = 1;
 pub const REGION: u32 = 5;
 
 // The numbers of a session in place.
-pub fn raw_at(head: &[u32; 4], numbers: &[u64; 8], window: &[u8; 48]) -> RawSession
+pub fn raw_at(head: &[u32; 4], numbers: &[u64; 9], window: &[u8; 48]) -> RawSession
     ensures { λ r. ⌜ r ≡ rawAt (now (head .entry)) (now (numbers .entry)) (now (window .entry)) ⌝ }
 {
     let bytes = *window;
@@ -64,6 +66,7 @@ pub fn raw_at(head: &[u32; 4], numbers: &[u64; 8], window: &[u8; 48]) -> RawSess
         done: numbers[DONE],
         outstanding: numbers[OUTSTANDING],
         due: numbers[DUE],
+        width: numbers[WIDTH],
         window: bytes,
     }
 }
@@ -72,7 +75,7 @@ pub fn raw_at(head: &[u32; 4], numbers: &[u64; 8], window: &[u8; 48]) -> RawSess
 fn put_back(
     t: RawStepped,
     head: &mut [u32; 4],
-    numbers: &mut [u64; 8],
+    numbers: &mut [u64; 9],
     window: &mut [u8; 48],
 ) -> RawTold
     ensures { λ r. ⌜ steppedAt (rawAt (now (head .exit)) (now (numbers .exit)) (now (window .exit))) r ≡ t ⌝ }
@@ -89,6 +92,7 @@ fn put_back(
         s.done,
         s.outstanding,
         s.due,
+        s.width,
     ];
     *window = bytes;
     RawTold {
@@ -109,7 +113,7 @@ fn no_session(out: &[u8]) -> u8
 // A step of a session in place. Its numbers are read before 1 and 2 are judged, so that these have the registers, and told of behind them.
 pub fn step(
     head: &mut [u32; 4],
-    numbers: &mut [u64; 8],
+    numbers: &mut [u64; 9],
     window: &mut [u8; 48],
     delivery: &[u8],
     set: &[u8],

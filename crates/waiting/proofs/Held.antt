@@ -9,6 +9,7 @@ use borrow.Author.Tests.{ltb-true, ltb-false, le-ltb, lt-leb, eqb-true}
 use lib.Dec.{ltb, leb, eqb}
 use lib.ListN.{length, take, length-append}
 use lib.Seq.{take-length}
+use Rattle.field.specs.Field.{fieldSize}
 use Rattle.base.proofs.Ranges.{by-test}
 use Rattle.bundle.specs.Bundle.{wellFormed}
 use Rattle.entry.specs.Entry.{entryOf, filenameOf}
@@ -29,7 +30,7 @@ use Rattle.session.specs.Outcome.{heldIn, isEnded, holding, Outcome, outcome}
 use Rattle.session.specs.PacketPhase.{keep, acted, packetOf}
 use Rattle.session.specs.FillingPhase.{responseOf, switchedOf, tableOf}
 use Rattle.session.specs.BetweenPhase.{entriesIn, openOf, betweenOf}
-use Rattle.session.specs.RegionPhase.{nextChunk, begunOf, askOf, handOf, regionOf}
+use Rattle.session.specs.RegionPhase.{nextChunk, begunOf, askOf, handOf, regionOf, nameIn}
 use Rattle.session.specs.Limits.{heldLimit, limitOf}
 use Rattle.session.proofs.Window.{keep-length, keep-same}
 use Rattle.session.specs.Step.{onPhase, stepOf}
@@ -90,7 +91,7 @@ module _ (s : Session) (b d set names t y o : List ℕ) (g : HoldsBytes s b) whe
     acted-holds n w W.Pass e = free _ n refl e (refl, none)
     acted-holds n w (W.Finish how) e = free _ n refl (g .size) tt
     acted-holds n w (W.Respond c k) e = free _ n refl e tt
-    acted-holds n w (W.Debug a k) e = free _ n refl e tt
+    acted-holds n w (W.Debug v a k) e = free _ n refl e tt
     acted-holds n w (W.Refused why) e = free _ n refl (g .size) tt
 
     over-holds : Keeps (packetOver s b d set t y o)
@@ -114,7 +115,7 @@ module _ (s : Session) (b d set names t y o : List ℕ) (g : HoldsBytes s b) whe
 
   -- ---- the other phases leave the window as it is
 
-  open-holds : (k i : ℕ) (e : List ℕ) (c : NameCheck) → Keeps (outcome (openOf 8 s k i e c) t y o)
+  open-holds : (k i : ℕ) (e : List ℕ) (c : NameCheck) → Keeps (outcome (openOf (fieldSize (s .width)) s k i e c) t y o)
   open-holds k i e N.Good = free _ 0 refl (g .size) tt
   open-holds k i e (N.Refused why) = free _ 0 refl (g .size) tt
 
@@ -122,18 +123,18 @@ module _ (s : Session) (b d set names t y o : List ℕ) (g : HoldsBytes s b) whe
   unfolding nextChunk
   next-holds k x = split Keeps (leb (x .len) (x .done)) (λ e. free _ 0 refl (g .size) tt) (λ e. free _ 0 refl (g .size) tt)
 
-  begun-holds : (k : ℕ) (x : Region) (c : NameCheck) → Keeps (begunOf 8 s k x t y o c)
-  begun-holds k x N.Good = split Keeps (ltb (256 ^ 8) (x .base + x .len)) (λ e. free _ 0 refl (g .size) tt) (λ e. next-holds k x)
+  begun-holds : (k : ℕ) (x : Region) (c : NameCheck) → Keeps (begunOf s k x t y o c)
+  begun-holds k x N.Good = split Keeps (ltb (256 ^ fieldSize (s .width)) (x .base + x .len)) (λ e. free _ 0 refl (g .size) tt) (λ e. next-holds k x)
   begun-holds k x (N.Refused why) = free _ 0 refl (g .size) tt
 
-  region-holds : (k : ℕ) (x : Region) → Keeps (regionOf 8 s k x d t y o)
+  region-holds : (k : ℕ) (x : Region) → Keeps (regionOf s k x d t y o)
   unfolding regionOf askOf handOf
   region-holds k x =
       split Keeps (x .due) (λ e. free _ 0 refl (g .size) tt)
       (λ e.
       split Keeps (eqb (x .outstanding) 0)
       (λ m.
-      split Keeps (eqb (x .done) 0) (λ i. begun-holds k x (afterOpenCheck (filenameOf 8 (entryOf 8 t (x .entry))))) (λ i. next-holds k x))
+      split Keeps (eqb (x .done) 0) (λ i. begun-holds k x (afterOpenCheck (nameIn (s .width) t x))) (λ i. next-holds k x))
       (λ m. split Keeps (eqb (length d) 0) (λ i. still) (λ i. free _ (min (x .outstanding) (length d)) refl (g .size) tt)))
 
   phase-holds : (p : Phase) → length b ≡ heldIn p → freshIn p (s .window) (s .reads) → Keeps (onPhase s p d set names t y o)
@@ -150,9 +151,9 @@ module _ (s : Session) (b d set names t y o : List ℕ) (g : HoldsBytes s b) whe
       let n : ℕ = min (x .declared - x .filled) (length d) in
       split Keeps (ltb (x .filled + n) (x .declared)) (λ m. free _ n refl (g .size) tt) (λ m. free _ n refl (g .size) tt)
   phase-holds (P.Between k from) e f =
-      let i : ℕ = nextOf 8 names t (entriesIn 8 k - from) from in
-      split (λ (r : Stepped). Keeps (outcome r t y o)) (ltb i (entriesIn 8 k))
-      (λ m. open-holds k i (entryOf 8 t i) (openCheck (filenameOf 8 (entryOf 8 t i)))) (λ m. free _ 0 refl (g .size) tt)
+      let i : ℕ = nextOf (fieldSize (s .width)) names t (entriesIn (fieldSize (s .width)) k - from) from in
+      split (λ (r : Stepped). Keeps (outcome r t y o)) (ltb i (entriesIn (fieldSize (s .width)) k))
+      (λ m. open-holds k i (entryOf (fieldSize (s .width)) t i) (openCheck (filenameOf (fieldSize (s .width)) (entryOf (fieldSize (s .width)) t i)))) (λ m. free _ 0 refl (g .size) tt)
   phase-holds (P.Region k x) e f = region-holds k x
   phase-holds (P.Ended k) e f = still
 

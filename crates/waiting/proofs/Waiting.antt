@@ -10,6 +10,7 @@ use borrow.Author.Tests.{ltb-true, ltb-false, leb-false, eqb-true, eqb-false, lt
 use lib.Dec.{ltb, leb, eqb}
 use lib.ListN.{length, take, drop, length-take, take-append-drop}
 use lib.Seq.{paste-zero, take-all, take-take, take-append-le}
+use Rattle.field.specs.Field.{fieldSize}
 use Rattle.base.specs.Choice.{pick}
 use Rattle.base.proofs.Tests.{neither, split, differ}
 use Rattle.base.proofs.Ranges.{by-test}
@@ -35,7 +36,7 @@ use Rattle.session.specs.Outcome.{Outcome, outcome, gives, untouched, inPhase, 
 use Rattle.session.specs.PacketPhase.{keep, acted, wholeOf, sizedOf, packetOf}
 use Rattle.session.specs.FillingPhase.{responseOf, switchedOf, tableOf}
 use Rattle.session.specs.BetweenPhase.{entriesIn, openOf, betweenOf}
-use Rattle.session.specs.RegionPhase.{nextChunk, begunOf, askOf, handOf, regionOf}
+use Rattle.session.specs.RegionPhase.{nextChunk, begunOf, askOf, handOf, regionOf, nameIn}
 use Rattle.session.specs.Limits.{heldLimit, readsLimit, phaseLimit, limitOf}
 use Rattle.session.specs.Step.{onPhase, stepOf}
 use Rattle.waiting.specs.Wanted.{regionWaits, needsBytes, wantedIn, wantedOf}
@@ -88,9 +89,9 @@ module _ (s : Session) (set names t y o : List ℕ) (i : InOrder s set names t y
   unfolding stepOf
   step-is-phase d = rw (i .images, i .stems, le-ltb (length o) 48 (i .room), i .limits) (ended-phase s (s .phase) d set names t y o)
 
-  pub phase-within : phaseLimit 8 (s .window) (s .phase) t y ≡ false
+  pub phase-within : phaseLimit (fieldSize (s .width)) (s .window) (s .phase) t y ≡ false
   unfolding limitOf
-  phase-within = neither (readsLimit s) (phaseLimit 8 (s .window) (s .phase) t y) (i .limits) .1
+  phase-within = neither (readsLimit s) (phaseLimit (fieldSize (s .width)) (s .window) (s .phase) t y) (i .limits) .1
 
 -- ---- an empty delivery, where bytes are needed: go, and nothing changes
 
@@ -121,13 +122,13 @@ module _ (s : Session) (full : length (s .window) ≡ 48) (set names t y o : Lis
       let z : min (x .declared - x .filled) 0 ≡ 0 = omega arith in
       rw (z, ← paste-zero t (x .filled) [], add-zero, l) (ap (λ (z : Session). outcome (gives z 0 A.Go) t y o) e)
 
-  waits-region : (k : ℕ) (x : Region) → regionWaits x ≡ true → regionOf 8 s k x [] t y o ≡ waiting
+  waits-region : (k : ℕ) (x : Region) → regionWaits x ≡ true → regionOf s k x [] t y o ≡ waiting
   unfolding regionOf handOf
   waits-region k x l =
       by-test (x .due) (λ m. differ (rw m at l))
       (λ m. by-test (eqb (x .outstanding) 0) (λ n. differ (rw (m, n) at l)) (λ n. rw (m, n) refl))
 
-  waits-phase : (p : Phase) → phaseLimit 8 (s .window) p t y ≡ false → inPhase s p ≡ s → needsBytes p ≡ true
+  waits-phase : (p : Phase) → phaseLimit (fieldSize (s .width)) (s .window) p t y ≡ false → inPhase s p ≡ s → needsBytes p ≡ true
       → onPhase s p [] set names t y o ≡ waiting
   waits-phase (P.Packet h) l e n = waits-packet h l e
   waits-phase (P.Response x) l e n = waits-response x e n
@@ -155,15 +156,15 @@ other a f e = let z : _≡_ {A = ℕ} 0 1 = f e in omega arith
 
 module _ (s : Session) (set names t y o : List ℕ) where
   -- between regions
-  open-other : (k i : ℕ) (e : List ℕ) (c : NameCheck) → Other (openOf 8 s k i e c)
+  open-other : (k i : ℕ) (e : List ℕ) (c : NameCheck) → Other (openOf (fieldSize (s .width)) s k i e c)
   open-other k i e N.Good = (refl, other _ (λ q. cc))
   open-other k i e (N.Refused why) = (refl, other _ (λ q. cc))
 
-  between-other : (k i : ℕ) → Other (betweenOf 8 s k i names t)
+  between-other : (k i : ℕ) → Other (betweenOf (fieldSize (s .width)) s k i names t)
   unfolding betweenOf
   between-other k from =
-      let i : ℕ = nextOf 8 names t (entriesIn 8 k - from) from in
-      split Other (ltb i (entriesIn 8 k)) (λ e. open-other k i (entryOf 8 t i) (openCheck (filenameOf 8 (entryOf 8 t i)))) (λ e. (refl, other _ (λ q. cc)))
+      let i : ℕ = nextOf (fieldSize (s .width)) names t (entriesIn (fieldSize (s .width)) k - from) from in
+      split Other (ltb i (entriesIn (fieldSize (s .width)) k)) (λ e. open-other k i (entryOf (fieldSize (s .width)) t i) (openCheck (filenameOf (fieldSize (s .width)) (entryOf (fieldSize (s .width)) t i)))) (λ e. (refl, other _ (λ q. cc)))
 
   -- a region with nothing outstanding
   abbrev Asks : Outcome → Type 0
@@ -173,14 +174,14 @@ module _ (s : Session) (set names t y o : List ℕ) where
   unfolding nextChunk
   next-other k x = split Asks (leb (x .len) (x .done)) (λ e. (refl, other _ (λ q. cc))) (λ e. (refl, other _ (λ q. cc)))
 
-  begun-other : (k : ℕ) (x : Region) (c : NameCheck) → Asks (begunOf 8 s k x t y o c)
-  begun-other k x N.Good = split Asks (ltb (256 ^ 8) (x .base + x .len)) (λ e. (refl, other _ (λ q. cc))) (λ e. next-other k x)
+  begun-other : (k : ℕ) (x : Region) (c : NameCheck) → Asks (begunOf s k x t y o c)
+  begun-other k x N.Good = split Asks (ltb (256 ^ fieldSize (s .width)) (x .base + x .len)) (λ e. (refl, other _ (λ q. cc))) (λ e. next-other k x)
   begun-other k x (N.Refused why) = (refl, other _ (λ q. cc))
 
-  ask-other : (k : ℕ) (x : Region) → Asks (askOf 8 s k x t y o)
+  ask-other : (k : ℕ) (x : Region) → Asks (askOf s k x t y o)
   unfolding askOf
   ask-other k x =
-      split Asks (eqb (x .done) 0) (λ e. begun-other k x (afterOpenCheck (filenameOf 8 (entryOf 8 t (x .entry))))) (λ e. next-other k x)
+      split Asks (eqb (x .done) 0) (λ e. begun-other k x (afterOpenCheck (nameIn (s .width) t x))) (λ e. next-other k x)
 
   -- an outcome that is a wait only where p needs bytes
   abbrev Only : Phase → Outcome → Type 0
@@ -208,7 +209,7 @@ module _ (s : Session) (set names t y o : List ℕ) where
       let z : _≡_ {A = ℕ} 0 1 = cc in
       absurd (omega arith))
 
-  only-region : (k : ℕ) (x : Region) → Only (P.Region k x) (regionOf 8 s k x [] t y o)
+  only-region : (k : ℕ) (x : Region) → Only (P.Region k x) (regionOf s k x [] t y o)
   unfolding regionOf
   only-region k x =
       split (Only (P.Region k x)) (x .due) (λ m. never (other _ (λ q. cc)))
@@ -242,7 +243,7 @@ module _ (s : Session) (set names t y o : List ℕ) where
 
 -- none are wanted exactly where none are needed
 module _ (s : Session) (t y : List ℕ) where
-  wanted-phase : (p : Phase) → phaseLimit 8 (s .window) p t y ≡ false → needsBytes p ≡ ltb 0 (wantedIn (s .window) p)
+  wanted-phase : (p : Phase) → phaseLimit (fieldSize (s .width)) (s .window) p t y ≡ false → needsBytes p ≡ ltb 0 (wantedIn (s .window) p)
   wanted-phase (P.Packet h) l =
       by-test (ltb h 8) (λ m. rw m (sym (lt-ltb 0 (8 - h) (omega (arith, ltb-true h 8 m)))))
       (λ m. rw m (sym (lt-ltb 0 (lengthField (s .window) - h) (omega (arith, held-within (s .window) h l (ltb-false h 8 m) .1)))))
@@ -261,7 +262,7 @@ module _ (s : Session) (t y : List ℕ) where
 
   pub wanted-needs : limitOf s t y ≡ false → needsBytes (s .phase) ≡ ltb 0 (wantedOf s)
   unfolding limitOf
-  wanted-needs l = wanted-phase (s .phase) (neither (readsLimit s) (phaseLimit 8 (s .window) (s .phase) t y) l .1)
+  wanted-needs l = wanted-phase (s .phase) (neither (readsLimit s) (phaseLimit (fieldSize (s .width)) (s .window) (s .phase) t y) l .1)
 
 -- a delivery of no more than is wanted is taken whole
 module _ (s : Session) (full : length (s .window) ≡ 48) (d set names t y o : List ℕ) where
@@ -274,7 +275,7 @@ module _ (s : Session) (full : length (s .window) ≡ 48) (d set names t y o : L
   acted-takes n w W.Pass = refl
   acted-takes n w (W.Finish how) = refl
   acted-takes n w (W.Respond c k) = refl
-  acted-takes n w (W.Debug a k) = refl
+  acted-takes n w (W.Debug v a k) = refl
   acted-takes n w (W.Refused why) = refl
 
   -- size is the packet's length: at the eighth byte it is refused, or all that came is of the packet
@@ -308,7 +309,7 @@ module _ (s : Session) (full : length (s .window) ≡ 48) (d set names t y o : L
       let b : badLength size ≡ false = ap badLength e ∙ held-within (s .window) h l g .0 in
       takes-sized h size (λ n. differ (sym b ∙ n)) (λ n. omega arith)))
 
-  takes-region : (k : ℕ) (x : Region) → length d ≤ wantedIn (s .window) (P.Region k x) → All (regionOf 8 s k x d t y o)
+  takes-region : (k : ℕ) (x : Region) → length d ≤ wantedIn (s .window) (P.Region k x) → All (regionOf s k x d t y o)
   unfolding regionOf handOf
   takes-region k x c =
       split All (x .due) (λ m. let j : length d ≤ 0 = rw m at c in omega arith)
@@ -317,7 +318,7 @@ module _ (s : Session) (full : length (s .window) ≡ 48) (d set names t y o : L
       split All (eqb (x .outstanding) 0) (λ n. omega (arith, eqb-true (x .outstanding) 0 n, ask-other s set names t y o k x .0))
       (λ n. split All (eqb (length d) 0) (λ q. omega (arith, eqb-true (length d) 0 q)) (λ q. omega arith)))
 
-  takes-phase : (p : Phase) → phaseLimit 8 (s .window) p t y ≡ false → length d ≤ wantedIn (s .window) p → All (onPhase s p d set names t y o)
+  takes-phase : (p : Phase) → phaseLimit (fieldSize (s .width)) (s .window) p t y ≡ false → length d ≤ wantedIn (s .window) p → All (onPhase s p d set names t y o)
   unfolding responseOf switchedOf tableOf betweenOf
   takes-phase (P.Packet h) l c = takes-packet h l c
   takes-phase (P.Response x) l c =

@@ -7,6 +7,7 @@ use Prim.Native.Nat.{ℕ, _+_, _-_, _≤_}
 use native.Mathlib.Omega.{arith}
 use borrow.Author.Tests.{le-ltb}
 use lib.ListN.{length, take, length-append}
+use Rattle.field.specs.Field.{fieldSize}
 use Rattle.bundle.specs.Bundle.{wellFormed}
 use Rattle.packet.specs.Packet.{lengthField, badLength}
 use Rattle.verdict.specs.Verdict.{verdictOf}
@@ -40,7 +41,7 @@ module _ (s : Session) (b set names t y o : List ℕ) (h : ℕ) (g : HoldsBytes 
   limits-held : limitOf s t y ≡ false
   unfolding limitOf
   limits-held =
-      let l : phaseLimit 8 (s .window) (s .phase) t y ≡ false = ap (λ (p : Phase). phaseLimit 8 (s .window) p t y) phase-held ∙ held .0 in
+      let l : phaseLimit (fieldSize (s .width)) (s .window) (s .phase) t y ≡ false = ap (λ (p : Phase). phaseLimit (fieldSize (s .width)) (s .window) p t y) phase-held ∙ held .0 in
       rw (l, held .1) refl
 
   -- it is the packet phase with all the bytes

@@ -1,9 +1,25 @@
--- What crosses to C and is told by no other crate: the reset packet, built alone. Document 01, "Building".
-use Prim.Native.Nat.{ℕ}
+-- What crosses to C and is told by no other crate: entries and the next selected one by a width that is a number (document 02, request 2), and the reset packet, built
+-- alone (document 01, "Building").
+use Prim.Native.Nat.{ℕ, _+_, _-_}
 use mathlib.Core.List.{List}
+use Rattle.base.specs.Choice.{pick}
+use Rattle.field.specs.Field.{fieldSize}
+use Rattle.entry.specs.Entry.{missing, entryAt}
+use Rattle.entry.specs.declared.EntryAt.{EntryAt}
+use Rattle.selection.specs.Selection.{nextOf}
+use Rattle.raw.specs.Raw.{widthOf, isWidth}
 use Rattle.build.specs.declared.Request.the-variants as Q
 use Rattle.build.specs.Build as B
 use Rattle.raw_records.specs.Records.{builtNumber}
+
+-- entry i of a table; of a number that is no width there is none
+unfoldable pub entryRaw : List ℕ → ℕ → ℕ → EntryAt
+entryRaw t n i = pick (isWidth n) (entryAt (fieldSize (widthOf n)) t i) missing
+
+-- the first selected from `from` on and before `entries`; of a number that is no width none is
+unfoldable pub nextRaw : List ℕ → ℕ → ℕ → List ℕ → ℕ → ℕ
+nextRaw t n entries names from =
+    pick (isWidth n) (nextOf (fieldSize (widthOf n)) names t (entries - from) from) (from + (entries - from))
 
 -- Reset: its number, and the out buffer afterwards
 pub record ResetOutcome : Type 0 where

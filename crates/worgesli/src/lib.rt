@@ -3,6 +3,7 @@ use build::sahara_reset;
 use bundle::check_images;
 use bundle::check_names;
 use entry::entry_at;
+use entry::no_entry;
 use image::ImageId;
 use image::image_range;
 use packet::sahara_parse_packet;
@@ -13,31 +14,28 @@ use raw_packet::RawPacket;
 use raw_records::RawEntry;
 use raw_records::RawRange;
 ghost use mathlib.Core.Path.{_≡_};
-ghost use Prim.Native.Nat.{_-_};
 ghost use Rattle.utf8.specs.Utf8.{utf8};
 ghost use Rattle.bundle.specs.Bundle.{imagesChecked, namesChecked};
 ghost use Rattle.image.specs.Image.{rangeOf};
-ghost use Rattle.entry.specs.Entry.{entryAt};
-ghost use Rattle.selection.specs.Selection.{nextOf};
 ghost use Rattle.packet.specs.Packet.{decodeOf};
 ghost use Rattle.raw.specs.Raw.{isSession, openedRaw, steppedAt, toldIn};
 ghost use Rattle.raw_packet.specs.RawPacket.{rawPacket};
 ghost use Rattle.raw_records.specs.Records.{rawEntry, rawRange, checkedNumber};
 ghost use Rattle.raw_step.specs.RawStep.{rawOutcome, stepRaw, rawAt, waitsAt, closedRaw, wantedRaw};
-ghost use Rattle.worgesli.specs.Worgesli.{resetOutcome, resetRaw};
+ghost use Rattle.worgesli.specs.Worgesli.{entryRaw, nextRaw, resetOutcome, resetRaw};
 
 // The number of this interface: another where a struct or a function of it is another.
 #[no_mangle]
 pub extern "C" fn worgesli_abi() -> u32
-    ensures { λ r. ⌜ r ≡ 1 ⌝ }
+    ensures { λ r. ⌜ r ≡ 2 ⌝ }
 {
-    1
+    2
 }
 
 // The same under a name with the number in it, for a caller that must not link with another interface.
 #[no_mangle]
-pub extern "C" fn worgesli_abi_1() -> u32
-    ensures { λ r. ⌜ r ≡ 1 ⌝ }
+pub extern "C" fn worgesli_abi_2() -> u32
+    ensures { λ r. ⌜ r ≡ 2 ⌝ }
 {
     worgesli_abi()
 }
@@ -74,6 +72,7 @@ pub extern "C" fn worgesli_step(
         s.done,
         s.outstanding,
         s.due,
+        s.width,
     ];
     let mut window = s.window;
     let told = raw_step::step(
@@ -90,11 +89,11 @@ pub extern "C" fn worgesli_step(
     raw::stepped_at(raw_step::raw_at(&head, &numbers, &window), told)
 }
 
-// As worgesli_step, with the session in place: mode, command, backend and phase; reads, count, at, base, len, done, outstanding and due; the window.
+// As worgesli_step, with the session in place: mode, command, backend and phase; reads, count, at, base, len, done, outstanding, due and width; the window.
 #[no_mangle]
 pub extern "C" fn worgesli_step_in_place(
     head: &mut [u32; 4],
-    numbers: &mut [u64; 8],
+    numbers: &mut [u64; 9],
     window: &mut [u8; 48],
     delivery: &[u8],
     set: &[u8],
@@ -154,7 +153,7 @@ pub extern "C" fn worgesli_wanted(s: RawSession) -> usize
 #[no_mangle]
 pub extern "C" fn worgesli_wanted_in_place(
     head: &[u32; 4],
-    numbers: &[u64; 8],
+    numbers: &[u64; 9],
     window: &[u8; 48],
 ) -> usize
     ensures { λ r. ⌜ r ≡ wantedRaw (rawAt (now (head .entry)) (now (numbers .entry)) (now (window .entry))) ⌝ }
@@ -184,25 +183,33 @@ pub extern "C" fn worgesli_image_range(set: &[u8], id: u64, offset: u64, len: u6
     raw_records::raw_range(image_range(set, ImageId(id), offset, len))
 }
 
-// Entry i of a table.
+// Entry i of a table of a width of 32 or 64 bits; of any other width there is none.
 #[no_mangle]
-pub extern "C" fn worgesli_entry_at(table: &[u8], i: usize) -> RawEntry
-    ensures { λ r. ⌜ r ≡ rawEntry (entryAt 8 (now (table .entry)) i) ⌝ }
+pub extern "C" fn worgesli_entry_at(table: &[u8], width: u64, i: usize) -> RawEntry
+    ensures { λ r. ⌜ r ≡ rawEntry (entryRaw (now (table .entry)) width i) ⌝ }
 {
-    raw_records::raw_entry(entry_at(table, i))
+    if !raw::is_width(width) {
+        return raw_records::raw_entry(no_entry());
+    }
+    raw_records::raw_entry(entry_at(table, raw::width_of(width), i))
 }
 
-// The first selected entry from `from` on and before `entries`; the search ends with the table.
+// The first selected entry from `from` on and before `entries`, of a table of a width of 32 or 64 bits; the search ends with the table. Of any other width none
+// is selected.
 #[no_mangle]
 pub extern "C" fn worgesli_next_selected(
     table: &[u8],
+    width: u64,
     entries: usize,
     names: &[u8],
     from: usize,
 ) -> usize
-    ensures { λ r. ⌜ r ≡ nextOf 8 (now (names .entry)) (now (table .entry)) (entries - from) from ⌝ }
+    ensures { λ r. ⌜ r ≡ nextRaw (now (table .entry)) width entries (now (names .entry)) from ⌝ }
 {
-    selection::next_selected(table, entries, names, from)
+    if !raw::is_width(width) {
+        return if from < entries { entries } else { from };
+    }
+    selection::next_selected(table, raw::width_of(width), entries, names, from)
 }
 
 // Whether the bytes are UTF-8.

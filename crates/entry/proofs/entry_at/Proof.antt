@@ -18,8 +18,8 @@ use Rattle.entry.proofs.entry_at.Tie as tie
 entries-in-requires : tie.Need-entries-in-requires
 entries-in-requires c κs = search needs
 
-zeros-requires : tie.Need-zeros-requires
-zeros-requires c κs = search needs
+no-entry-requires : tie.Need-no-entry-requires
+no-entry-requires c κs = search needs
 
 returns : tie.Need-returns
 returns c =
@@ -60,7 +60,7 @@ entry-at-spec =
     tie.close
     (tie.spec
     entries-in-requires
-    zeros-requires
+    no-entry-requires
     returns
     entry-size-requires
     mul-decode

@@ -17,11 +17,22 @@ exec-number-requires c κs = search needs
 backend-number-requires : tie.Need-backend-number-requires
 backend-number-requires c κs = search needs
 
+width-number-requires : tie.Need-width-number-requires
+width-number-requires c κs = search needs
+
 returns : tie.Need-returns
 unfolding rawOf
 returns c =
-    let m = c .before .before in
-    rw (m .mode-number .ensures, c .before .exec-number .ensures, c .backend-number .ensures, m .before .counts-of .ensures) refl
+    let b = c .before in
+    let m = b .before .before in
+    rw (
+      m .mode-number .ensures,
+      b .before .exec-number .ensures,
+      b .backend-number .ensures,
+      c .width-number .ensures,
+      m .before .counts-of .ensures,
+    )
+    refl
 
 pub raw-of-spec : {M : Type 1} → statement M
 raw-of-spec =
@@ -31,4 +42,5 @@ raw-of-spec =
     mode-number-requires
     exec-number-requires
     backend-number-requires
+    width-number-requires
     returns)

@@ -7,6 +7,9 @@ use Rattle.raw.proofs.session_of.Tie as tie
 opening-of-requires : tie.Need-opening-of-requires
 opening-of-requires c κs = search needs
 
+width-of-requires : tie.Need-width-of-requires
+width-of-requires c κs = search needs
+
 phase-of-requires : tie.Need-phase-of-requires
 phase-of-requires c κs = search needs
 
@@ -15,4 +18,4 @@ unfolding sessionOf
 returns c = cc
 
 pub session-of-spec : {M : Type 1} → statement M
-session-of-spec = tie.close (tie.spec opening-of-requires phase-of-requires returns)
+session-of-spec = tie.close (tie.spec opening-of-requires width-of-requires phase-of-requires returns)

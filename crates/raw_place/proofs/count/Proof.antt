@@ -15,6 +15,9 @@ element-copy-out-base c = search needs
 element-copy-out-len : tie.Need-element-copy-out-len
 element-copy-out-len c = search needs
 
+element-copy-out-width : tie.Need-element-copy-out-width
+element-copy-out-width c = search needs
+
 bit-requires : tie.Need-bit-requires
 bit-requires c κs = search needs
 
@@ -32,6 +35,7 @@ count-spec =
     element-copy-out-at
     element-copy-out-base
     element-copy-out-len
+    element-copy-out-width
     bit-requires
     told-requires
     returns)

@@ -10,6 +10,7 @@ use borrow.Author.Tests.{not-false}
 use lib.ListN.{length, getD}
 use Rattle.base.proofs.Ranges.{by-then}
 use Rattle.bundle.specs.Bundle.{wellFormed}
+use Rattle.field.specs.declared.Width.{Width}
 use Rattle.verdict.specs.declared.Opening.{Opening}
 use Rattle.session.specs.declared.Region.{Region}
 use Rattle.session.specs.declared.Counted.{Counted}
@@ -18,7 +19,7 @@ use Rattle.region_phase.specs.declared.Advance.the-variants as D
 use Rattle.region_phase.specs.Advance.{advanced, advanceOf}
 use Rattle.region_phase.proofs.Laws.{advance-still}
 use Rattle.raw.specs.declared.RawTold.{RawTold}
-use Rattle.raw.specs.Raw.{openingOf, toldOf, steppedAt}
+use Rattle.raw.specs.Raw.{openingOf, widthOf, toldOf, steppedAt}
 use Rattle.raw_step.specs.RawStep.{rawOutcome, rawAt, stepRaw}
 use Rattle.raw_place.specs.Place.{inRegion, regionAt}
 use Rattle.raw_place.proofs.Repeats.{no, counts-are, waits-are, lent-empty}
@@ -30,16 +31,16 @@ use Rattle.raw_place.proofs.step_in_place.Tie as tie
 abbrev begun : tie.After-advance-region → tie.Start
 begun g =
     g .before .before .before .before .before .before .before .before .before .before .before
-    .before .before .before .before .before .before .before .before .before .before
+    .before .before .before .before .before .before .before .before .before .before .before .before
 
 abbrev after : tie.After-advance-region → List ℕ
-after g = g .advance-region .last .1 .1 .1 .1 .1 .1 .0
+after g = g .advance-region .last .1 .1 .1 .1 .1 .1 .1 .0
 
 -- there the numbers are those of a session in a region, and both bundles are well formed
 in-region : (g : tie.After-advance-region) → (let a = begun g .args in inRegion (now (a .head)) (now (a .numbers)) ≡ true)
     × ((wellFormed true (now (begun g .args .set)) ≡ true) × (wellFormed false (now (begun g .args .names)) ≡ true))
 in-region g =
-    let e = g .before .before .before .before .before .before .before .before .before .before .before in
+    let e = g .before .before .before .before .before .before .before .before .before .before .before .before .before in
     let a = begun g .args in
     let p = by-then (inRegion (now (a .head)) (now (a .numbers))) _ _ no (sym (e .before .ready .ensures) ∙ not-false _ (e .if1 .left)) in
     (p .0, by-then (wellFormed true (now (a .set))) _ _ no (p .1))
@@ -48,19 +49,23 @@ in-region g =
 come-to : (g : tie.After-advance-region) (v : Advance) → g .advance-region .result ≡ v → (let a = begun g .args in
     let n = now (a .numbers) in
     advanced v (after g)
-    ≡ advanceOf (openingOf (getD (now (a .head)) 0 0) (getD (now (a .head)) 1 0) (getD (now (a .head)) 2 0))
+    ≡ advanceOf (widthOf (getD n 8 0)) (openingOf (getD (now (a .head)) 0 0) (getD (now (a .head)) 1 0) (getD (now (a .head)) 2 0))
     (getD n 0 0) (getD n 1 0) (regionAt n) (length (now (a .delivery))) (now (a .table)) (now (a .out)))
 come-to g v e =
     let a = begun g .args in
     let n = now (a .numbers) in
     let h = now (a .head) in
-    let u = g .before .before .before .before .before in
+    let v = g .before .before .before .before .before in
+    let u = v .before .before in
     let x = u .before .before .before .before in
     let m = length (now (a .delivery)) in
     ap (λ (z : Advance). advanced z (after g)) (sym e)
     ∙ g .advance-region .ensures
-    ∙ ap (λ (z : Opening). advanceOf z (getD n 0 0) (getD n 1 0) (x .region-at .result) m (now (a .table)) (now (a .out))) (u .opening-of .ensures)
-    ∙ ap (λ (z : Region). advanceOf (openingOf (getD h 0 0) (getD h 1 0) (getD h 2 0)) (getD n 0 0) (getD n 1 0) z m (now (a .table)) (now (a .out)))
+    ∙ ap (λ (z : Width). advanceOf z (u .opening-of .result) (getD n 0 0) (getD n 1 0) (x .region-at .result) m (now (a .table)) (now (a .out)))
+    (v .width-of .ensures)
+    ∙ ap (λ (z : Opening). advanceOf (widthOf (getD n 8 0)) z (getD n 0 0) (getD n 1 0) (x .region-at .result) m (now (a .table)) (now (a .out)))
+    (u .opening-of .ensures)
+    ∙ ap (λ (z : Region). advanceOf (widthOf (getD n 8 0)) (openingOf (getD h 0 0) (getD h 1 0) (getD h 2 0)) (getD n 0 0) (getD n 1 0) z m (now (a .table)) (now (a .out)))
     (x .region-at .ensures)
 
 ready-requires : tie.Need-ready-requires
@@ -105,6 +110,12 @@ element-copy-out-opening-of-3 c = search needs
 
 opening-of-requires : tie.Need-opening-of-requires
 opening-of-requires c κs = tt
+
+element-copy-out-width-of : tie.Need-element-copy-out-width-of
+element-copy-out-width-of c = search needs
+
+width-of-requires : tie.Need-width-of-requires
+width-of-requires c κs = tt
 
 element-copy-out-k : tie.Need-element-copy-out-k
 element-copy-out-k c = search needs
@@ -210,7 +221,7 @@ returns-4 c =
     let v : Advance = g .advance-region .result in
     let still : (k : Counted) → v ≡ D.To k → ⊥ = λ k q. miss (0 ∷ 1 ∷ 3 ∷ 4 ∷ []) 2 tt (rw q at (e .match .keys2)) in
     let o : after g ≡ now (a .out) =
-    advance-still (openingOf (getD h 0 0) (getD h 1 0) (getD h 2 0)) (getD n 0 0) (regionAt n) (length (now (a .delivery))) (now (a .out)) still
+    advance-still (widthOf (getD n 8 0)) (openingOf (getD h 0 0) (getD h 1 0) (getD h 2 0)) (getD n 0 0) (regionAt n) (length (now (a .delivery))) (now (a .out)) still
     (getD n 1 0) (now (a .table)) (sym (come-to g v refl)) in
     let r = in-region g in
     let l = s .step2 .last in
@@ -238,6 +249,8 @@ step-in-place-spec =
     element-copy-out-opening-of-2
     element-copy-out-opening-of-3
     opening-of-requires
+    element-copy-out-width-of
+    width-of-requires
     element-copy-out-k
     element-copy-out-advance-region
     advance-region-requires
