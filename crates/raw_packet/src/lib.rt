@@ -122,6 +122,8 @@ fn body_packet(len: u32, body: SaharaPacketBody) -> RawPacket
         SaharaPacketBody::Debug64Req(b) => plain(0x10, len, 0, b.addr, b.len, 0),
         SaharaPacketBody::ReadMem64Req(b) => plain(0x11, len, 0, b.addr, b.len, 0),
         SaharaPacketBody::ReadData64Req(b) => plain(0x12, len, 0, b.image, b.offset, b.len),
+        SaharaPacketBody::DebugReq(b) => words(9, len, b.addr, b.len, 0),
+        SaharaPacketBody::ReadMemReq(b) => words(0x0a, len, b.addr, b.len, 0),
     }
 }
 

@@ -84,6 +84,18 @@ enum-known-body-10 c = search needs
 plain-requires-3 : tie.Need-plain-requires-3
 plain-requires-3 c κs = search needs
 
+enum-known-body-11 : tie.Need-enum-known-body-11
+enum-known-body-11 c = search needs
+
+words-requires-7 : tie.Need-words-requires-7
+words-requires-7 c κs = search needs
+
+enum-known-body-12 : tie.Need-enum-known-body-12
+enum-known-body-12 c = search needs
+
+words-requires-8 : tie.Need-words-requires-8
+words-requires-8 c κs = search needs
+
 returns : tie.Need-returns
 returns c =
     let a = c .before .before .before .before .before .args in
@@ -162,6 +174,18 @@ returns-13 c =
     let e : a .body ≡ B.ReadData64Req (c .before .before .body10 .given .0 .0) = cc in
     c .plain3 .ensures ∙ sym (ap (bodyPacket (a .len)) e)
 
+returns-14 : tie.Need-returns-14
+returns-14 c =
+    let a = c .before .before .before .before .args in
+    let e : a .body ≡ B.DebugReq (c .before .before .body11 .given .0 .0) = cc in
+    c .words7 .ensures ∙ sym (ap (bodyPacket (a .len)) e)
+
+returns-15 : tie.Need-returns-15
+returns-15 c =
+    let a = c .before .before .before .before .args in
+    let e : a .body ≡ B.ReadMemReq (c .before .before .body12 .given .0 .0) = cc in
+    c .words8 .ensures ∙ sym (ap (bodyPacket (a .len)) e)
+
 pub body-packet-spec : {M : Type 1} → statement M
 body-packet-spec =
     tie.close
@@ -192,6 +216,10 @@ body-packet-spec =
     plain-requires-2
     enum-known-body-10
     plain-requires-3
+    enum-known-body-11
+    words-requires-7
+    enum-known-body-12
+    words-requires-8
     returns
     returns-2
     returns-3
@@ -204,4 +232,6 @@ body-packet-spec =
     returns-10
     returns-11
     returns-12
-    returns-13)
+    returns-13
+    returns-14
+    returns-15)
