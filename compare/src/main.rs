@@ -40,6 +40,8 @@ struct Comparison {
     /// The kinds in the order in which they came.
     order: Vec<&'static str>,
     ends: BTreeMap<String, u64>,
+    /// Of those of 32 bits that the original's run tells all of.
+    narrow_ends: BTreeMap<String, u64>,
     named: BTreeMap<&'static str, u64>,
     lines: u64,
     differ: u64,
@@ -108,6 +110,9 @@ impl Comparison {
         }
         for (id, met) in [("mode-1", one), ("memory-32", narrow)] {
             *self.named.entry(id).or_default() += u64::from(met);
+        }
+        if narrow && same {
+            *self.narrow_ends.entry(events::name_of(&o.ran.end)).or_default() += 1;
         }
         let met = match (one || narrow, same) {
             (true, _) => Met::Measured,
@@ -223,9 +228,9 @@ impl Comparison {
             "  those inside, of mode 1 and of 32 bits ran again with deliveries cut at random, as wanted, and at one size ({} lines)",
             self.lines
         );
-        println!("ends of those inside");
-        for (end, n) in &self.ends {
-            println!("  {n:>9} {end}");
+        for (which, ends) in [("inside", &self.ends), ("of 32 bits", &self.narrow_ends)] {
+            println!("ends of those {which}");
+            ends.iter().for_each(|(end, n)| println!("  {n:>9} {end}"));
         }
     }
 }
