@@ -8,13 +8,19 @@ use Rattle.build.specs.Build.{fields, bytesOf}
 use Rattle.bundle.specs.Bundle.{slotsGood, wellFormed, slotOf}
 use Rattle.image.specs.Image.{rangeOf}
 use Rattle.utf8.specs.Utf8.{table as rows3-7, leads, afterFirst, goesOn}
-use Rattle.filename.specs.Filename.{before, stemOf}
-use Rattle.selection.specs.Selection.{low, namesFrom, same, member, selected}
+use Rattle.filename.specs.Filename.{before, has, stemOf, openCheck, afterOpenCheck}
+use Rattle.selection.specs.Selection.{low, namesFrom, same, member, selected, nextOf}
+use Rattle.verdict.specs.Opening.{chunkOf}
 use Rattle.verdict.specs.Verdict.{verdictOf}
 use Rattle.session.specs.FillingPhase.{responseOf}
-use Rattle.examples.specs.Rows.{rows, modeOne, all}
+use Rattle.session.specs.BetweenPhase.{betweenOf}
+use Rattle.session.specs.RegionPhase.{nextChunk, askOf, handOf, regionOf}
+use Rattle.session.specs.Limits.{limitOf}
+use Rattle.session.specs.Step.{stepOf}
+use Rattle.examples.specs.Rows.{rows, modeOne, oldBoards, all}
 
-pub table : T (all (rows ++ modeOne))
-unfolding rows modeOne le leBytes modeOf kinds unimplemented classOf kindOf decodeOf fields bytesOf slotsGood wellFormed slotOf rangeOf rows3-7
-    leads afterFirst goesOn before stemOf low namesFrom same member selected verdictOf responseOf
+pub table : T (all (rows ++ (modeOne ++ oldBoards)))
+unfolding rows modeOne oldBoards le leBytes modeOf kinds unimplemented classOf kindOf decodeOf fields bytesOf slotsGood wellFormed slotOf rangeOf rows3-7
+    leads afterFirst goesOn before stemOf low namesFrom same member selected verdictOf responseOf has openCheck
+    afterOpenCheck nextOf chunkOf betweenOf nextChunk askOf handOf regionOf limitOf stepOf
 table = tt

@@ -1,14 +1,17 @@
 -- The computed table. Document 01, "Lengths, modes and stems": "To be proved together, as one computed table". An example has what the definitions give and what
 -- 01 says, or document 02 where a request changed it. The theorem is `table` of proofs/Table.antt.
-use Prim.Native.Nat.{ℕ, _+_}
+use Prim.Native.Nat.{ℕ, _+_, _-_, _^_}
 use mathlib.Core.Bool.{Bool, true, false}
 use mathlib.Core.List.{List, [], _∷_, _++_}
 use lib.ListN.{length, replicate, take}
 use Rattle.base.specs.Choice.{pick}
-use Rattle.field.specs.Field.{leBytes}
+use Rattle.field.specs.Field.{leBytes, fieldSize}
+use Rattle.field.specs.declared.Width.{Width}
+use Rattle.field.specs.declared.Width.the-variants as WI
 use Rattle.command.specs.declared.SaharaMode.{SaharaMode}
 use Rattle.command.specs.declared.SaharaMode.the-variants as M
-use Rattle.build.specs.Build.{bytesOf}
+use Rattle.build.specs.Build.{fields, bytesOf}
+use Rattle.build.specs.declared.Request.the-variants as Q
 use Rattle.packet.specs.Packet.{lengthChecked}
 use Rattle.packet.specs.declared.LengthCheck.{LengthCheck}
 use Rattle.packet.specs.declared.LengthCheck.the-variants as L
@@ -22,10 +25,17 @@ use Rattle.verdict.specs.declared.QdlBackend.the-variants as U
 use Rattle.verdict.specs.declared.Opening.{Opening}
 use Rattle.verdict.specs.declared.Verdict.{Verdict}
 use Rattle.verdict.specs.declared.Verdict.the-variants as W
-use Rattle.session.specs.Outcome.{openedWith, filling}
+use Rattle.session.specs.declared.Phase.{Phase}
+use Rattle.session.specs.declared.Phase.the-variants as P
+use Rattle.session.specs.declared.Session.{Session}
+use Rattle.session.specs.declared.Answer.{Answer}
+use Rattle.session.specs.declared.Answer.the-variants as A
+use Rattle.session.specs.Outcome.{openedWith, inPhase, ofWidth, filling, region, Outcome}
 use Rattle.session.specs.FillingPhase.{responseOf}
+use Rattle.session.specs.Step.{stepOf}
 
--- what an example says: accepted, refused with a number, finished with a number, bytes of a set, a stem that matches or not, a packet sent
+-- what an example says: accepted, refused with a number, finished with a number, bytes of a set, a stem that matches or not, a packet sent, a region opened or
+-- closed, so many bytes of it handed out
 pub data Says : Type 0 where
   ok : Says
   refused : ℕ → Says
@@ -33,6 +43,9 @@ pub data Says : Type 0 where
   given : ℕ → ℕ → Says
   matches : Bool → Says
   sends : List ℕ → Says
+  opens : ℕ → Says
+  closes : ℕ → Says
+  hands : ℕ → Says
 
 -- a saying as numbers: which it is, and its values
 abbrev pub numbers : Says → List ℕ
@@ -43,6 +56,9 @@ numbers (given start k) = 3 ∷ start ∷ k ∷ []
 numbers (matches true) = 4 ∷ 1 ∷ []
 numbers (matches false) = 4 ∷ 0 ∷ []
 numbers (sends bytes) = 5 ∷ bytes
+numbers (opens i) = 6 ∷ i ∷ []
+numbers (closes i) = 7 ∷ i ∷ []
+numbers (hands k) = 8 ∷ k ∷ []
 
 -- ---- how each operation's answer is said
 
@@ -56,12 +72,24 @@ ofVerdict (W.Image x k) = given x k
 ofVerdict W.Pass = ok
 ofVerdict (W.Finish how) = finish how
 ofVerdict (W.Respond c k) = ok
-ofVerdict (W.Debug a k) = ok
+ofVerdict (W.Debug v a k) = sends (bytesOf (Q.MemRead v a k))
 ofVerdict (W.Refused why) = refused why
 
 abbrev pub ofRange : ImageRange → Says
 ofRange (R.At x k) = given x k
 ofRange (R.Refused why) = refused why
+
+-- a step's answer, by the out buffer that it leaves
+abbrev pub ofAnswer : Answer → List ℕ → Says
+ofAnswer A.Go o = ok
+ofAnswer (A.Send k) o = sends (take k o)
+ofAnswer (A.Image x k) o = given x k
+ofAnswer (A.Open i) o = opens i
+ofAnswer (A.Bytes k) o = hands k
+ofAnswer A.EmptyRead o = ok
+ofAnswer (A.Close i) o = closes i
+ofAnswer (A.Finished how r) o = finish how
+ofAnswer (A.Refused why) o = refused why
 
 -- ---- the inputs
 
@@ -124,6 +152,49 @@ DDRCS0 = 68 ∷ 68 ∷ 82 ∷ 67 ∷ 83 ∷ 48 ∷ []
 abbrev pub ddrcs0 : List ℕ
 ddrcs0 = 100 ∷ 100 ∷ 114 ∷ 99 ∷ 115 ∷ 48 ∷ []
 
+-- ---- memory debug of a width
+
+-- a packet with an address and a length, and more
+abbrev pub memory : Width → ℕ → ℕ → ℕ → ℕ → List ℕ → List ℕ
+memory v cmd len a k rest = packet cmd len (fields (fieldSize v) (a ∷ k ∷ []) ++ rest)
+
+-- MemRead and MemRead64
+abbrev pub memRead : Width → ℕ → ℕ → List ℕ
+memRead WI.Bits32 a k = memory WI.Bits32 0x0a 16 a k []
+memRead WI.Bits64 a k = memory WI.Bits64 0x11 24 a k []
+
+-- a table of one entry, whose preference is 1: "preference, base and length .., then the two 20-byte texts"
+abbrev pub tableOf : Width → ℕ → ℕ → List ℕ
+tableOf v base len = fields (fieldSize v) (1 ∷ base ∷ len ∷ []) ++ (replicate 20 0 ++ (OCIMEM·BIN ++ replicate 10 0))
+
+-- a step of a session, without images and names
+abbrev pub outcomeOf : Session → List ℕ → List ℕ → Outcome
+outcomeOf s d t = stepOf s d none none t [] (replicate 48 0)
+
+abbrev pub said : Outcome → Says
+said r = ofAnswer (r .stepped .answer) (r .out)
+
+-- of a width in a phase
+abbrev pub steps : Width → Phase → List ℕ → List ℕ → Says
+steps v p d t = said (outcomeOf (ofWidth (inPhase (openedWith (opening M.MemoryDebug)) p) v) d t)
+
+-- the step after open: base and length are of a table
+abbrev pub afterOpen : Width → ℕ → ℕ → Says
+afterOpen v base len =
+    let t = tableOf v base len in
+    let s = ofWidth (inPhase (openedWith (opening M.MemoryDebug)) (P.Between (length t) 0)) v in
+    said (outcomeOf (outcomeOf s [] t .stepped .session) [] t)
+
+-- made up: a region with this base and length, so much done and so much outstanding, all of which comes
+abbrev pub inRegion : Width → ℕ → ℕ → ℕ → ℕ → Says
+inRegion v base len done outstanding =
+    let t = tableOf v base len in
+    steps v (P.Region (length t) (region 0 base len done outstanding false)) (replicate outstanding 7) t
+
+-- inside region i of a table of 65,536 bytes, one byte outstanding, which comes
+abbrev pub atEntry : Width → ℕ → Says
+atEntry v i = steps v (P.Region 65536 (region i 0 1 0 1 false)) (7 ∷ []) (replicate 65536 0)
+
 -- ---- the table
 
 pub record Example : Type 0 where
@@ -160,6 +231,40 @@ modeOne =
     ∷ example (judged (hello 48 4 [])) (refused 9)
     ∷ example (judged (helloResp 1)) (refused 10)
     ∷ example (judged (hello 49 1 (0 ∷ []))) (refused 11)
+    ∷ []
+
+-- document 02, request 2
+unfoldable pub oldBoards : List Example
+oldBoards =
+    -- "After MemDebug the host .. sends MemRead for the table": "an address and a length of 4 bytes"
+    example (judged (memory WI.Bits32 9 16 4096 104 [])) (sends (memRead WI.Bits32 4096 104))
+    -- "MemDebug must be exactly 16 bytes long, else 11"; below 16 its body is short, 9
+    ∷ example (judged (memory WI.Bits32 9 17 4096 104 (0 ∷ []))) (refused 11)
+    ∷ example (judged (take 15 (memory WI.Bits32 9 15 4096 104 []))) (refused 9)
+    -- "MemRead received from a device is 10"; below 16 bytes 9
+    ∷ example (judged (memory WI.Bits32 0x0a 16 4096 104 [])) (refused 10)
+    ∷ example (judged (take 15 (memory WI.Bits32 0x0a 15 4096 104 []))) (refused 9)
+    -- "Their table entries are 52 bytes", "the entries are length / 52"; of 64 bits 52 bytes are none
+    ∷ example (steps WI.Bits32 (P.Between 52 0) [] (tableOf WI.Bits32 0 1)) (opens 0)
+    ∷ example (steps WI.Bits64 (P.Between 52 0) [] (tableOf WI.Bits32 0 1)) (finish 3)
+    -- "24 when a selected 32-bit region has base + length above 2^32, in the place of 22": it may end at 2^32, and one of 64 bits may pass it
+    ∷ example (afterOpen WI.Bits32 0xFFFFFFFF 1) (sends (memRead WI.Bits32 0xFFFFFFFF 1))
+    ∷ example (afterOpen WI.Bits32 0xFFFFFFFF 2) (refused 24)
+    ∷ example (afterOpen WI.Bits64 0xFFFFFFFF 2) (sends (memRead WI.Bits64 0xFFFFFFFF 2))
+    ∷ example (afterOpen WI.Bits64 (2 ^ 64 - 1) 2) (refused 22)
+    -- the same of a session made up, whose base passes 4 bytes
+    ∷ example (inRegion WI.Bits32 (2 ^ 32) 0 0 0) (closes 0)
+    ∷ example (inRegion WI.Bits32 (2 ^ 32 + 1) 0 0 0) (refused 24)
+    -- "For such a session the limit of base plus length under 18 is 2^32", once anything is done or outstanding
+    ∷ example (inRegion WI.Bits32 0xFFFFFFFF 2 0 2) (refused 18)
+    ∷ example (inRegion WI.Bits32 0xFFFFFFFF 2 1 0) (refused 18)
+    ∷ example (inRegion WI.Bits32 0xFFFFFFFE 2 0 2) (hands 2)
+    ∷ example (inRegion WI.Bits64 0xFFFFFFFF 2 0 2) (hands 2)
+    -- 65,536 bytes are 1,260 entries of 52, and 1,024 of 64: "entry number, the table's entries, inside a region one fewer" (18)
+    ∷ example (atEntry WI.Bits32 1259) (hands 1)
+    ∷ example (atEntry WI.Bits32 1260) (refused 18)
+    ∷ example (atEntry WI.Bits64 1023) (hands 1)
+    ∷ example (atEntry WI.Bits64 1024) (refused 18)
     ∷ []
 
 abbrev pub all : List Example → Bool

@@ -10,6 +10,8 @@ use lib.Dec.{ltb}
 use lib.ListN.{length, take}
 use borrow.Author.Tests.{ltb-true, ltb-false, le-ltb, le-leb}
 use Rattle.base.proofs.Ranges.{by-test}
+use Rattle.field.specs.Field.{fieldSize}
+use Rattle.field.specs.declared.Width.{Width}
 use Rattle.entry.specs.Entry.{entrySize, entryOf, baseOf, lengthOf, filenameOf, there}
 use Rattle.entry.proofs.Laws.{entryOf-take}
 use Rattle.filename.specs.Filename.{openCheck}
@@ -22,10 +24,10 @@ use Rattle.session.specs.declared.Answer.the-variants as A
 use Rattle.session.specs.Outcome.{Outcome, outcome, gives, inPhase, ended, region}
 use Rattle.session.specs.BetweenPhase.{betweenOf}
 use Rattle.session.specs.Limits.{readsLimit, phaseLimit}
-use Rattle.fetch.specs.Plain.{Report, opened, closed, finished, Debug, Ending, chunks, chunkCount, chosen, regions, Setting}
+use Rattle.fetch.specs.Plain.{Report, opened, closed, finished, Debug, fieldIn, Ending, chunks, chunkCount, chosen, regions, Setting}
 use Rattle.fetch.specs.Claim.{Dumpable, regionBytes, regionReads}
 use Rattle.fetch.proofs.Basics.{entry-end}
-use Rattle.fetch.proofs.Chunk.{chunk-good, count-most}
+use Rattle.fetch.proofs.Chunk.{mostReads, reads-more, reads-within, chunk-good, count-most}
 use Rattle.fetch.proofs.Ghost.{Ghost}
 use Rattle.fetch.proofs.Device.{no-bytes}
 use Rattle.fetch.proofs.Invariant.{tableAt, toCome, GoodBetween, dueBetween, boundBetween, Kept, via, inRegion, boundIn, cost}
@@ -109,41 +111,55 @@ module _ (f : ℕ) (b t : List ℕ) (n : ℕ) (e : take n b ≡ t) (l : n ≤ le
 
 -- ---- the laws of the plain host's regions
 
-regions-cons : (f : ℕ) (u : Opening) (mem : ℕ → ℕ) (t : List ℕ) (i : ℕ) (is : List ℕ) (r : ℕ)
-    → regions f u mem t (i ∷ is) r
-    ≡ opened i
-    ∷ (chunks u mem (lengthOf f (entryOf f t i)) (baseOf f (entryOf f t i)) (lengthOf f (entryOf f t i))
-    ++ (closed i ∷ regions f u mem t is (r + chunkCount u (lengthOf f (entryOf f t i)))))
-unfolding regions
-regions-cons f u mem t i is r = refl
+module _ (v : Width) (u : Opening) where
+  abbrev lengthAt : List ℕ → ℕ → ℕ
+  lengthAt t i = lengthOf (fieldSize v) (entryOf (fieldSize v) t i)
 
-regions-end : (f : ℕ) (u : Opening) (mem : ℕ → ℕ) (t : List ℕ) (r : ℕ) → regions f u mem t [] r ≡ finished 3 r ∷ []
-unfolding regions
-regions-end f u mem t r = refl
+  module _ (mem : ℕ → ℕ) where
+    regions-cons : (t : List ℕ) (i : ℕ) (is : List ℕ) (r : ℕ)
+        → regions v u mem t (i ∷ is) r
+        ≡ opened i
+        ∷ (chunks v u mem (lengthAt t i) (baseOf (fieldSize v) (entryOf (fieldSize v) t i)) (lengthAt t i)
+        ++ (closed i ∷ regions v u mem t is (r + chunkCount u (lengthAt t i))))
+    unfolding regions
+    regions-cons t i is r = refl
 
-open-law : (u : Opening) (mem : ℕ → ℕ) (i b l : ℕ) (y : List Report) → inRegion u mem (region i b l 0 0 false) y ≡ chunks u mem l b l ++ y
-unfolding inRegion
-open-law u mem i b l y = rw (no-bytes, sub-zero l, add-zero b) refl
+    regions-end : (t : List ℕ) (r : ℕ) → regions v u mem t [] r ≡ finished 3 r ∷ []
+    unfolding regions
+    regions-end t r = refl
 
-cost-cons : (u : Opening) (t : List ℕ) (i : ℕ) (is : List ℕ)
-    → cost u t (i ∷ is) ≡ boundIn u (region i 0 (lengthOf 8 (entryOf 8 t i)) 0 0 false) + 2 + cost u t is
-unfolding cost regionBytes regionReads
-cost-cons u t i is = rw sub-zero (omega arith)
+    open-law : (i b l : ℕ) (y : List Report) → inRegion v u mem (region i b l 0 0 false) y ≡ chunks v u mem l b l ++ y
+    unfolding inRegion
+    open-law i b l y = rw (no-bytes, sub-zero l, add-zero b) refl
 
--- the premise on the selected regions
+  cost-cons : (t : List ℕ) (i : ℕ) (is : List ℕ)
+      → cost v u t (i ∷ is) ≡ boundIn u (region i 0 (lengthAt t i) 0 0 false) + 2 + cost v u t is
+  unfolding cost regionBytes regionReads
+  cost-cons t i is = rw sub-zero (omega arith)
+
+-- the premise on the selected regions, their numbers of f bytes; and of the memory debug's width
+abbrev SafeOf : Setting → Debug → ℕ → Type 0
+SafeOf c dbg f =
+    (i : ℕ) → i < dbg .size / entrySize f → selected f (c .names) (entryOf f (tableAt c dbg) i) ≡ true → Dumpable f (entryOf f (tableAt c dbg) i)
+
 abbrev pub Safe : Setting → Debug → Type 0
-Safe c dbg =
-    (i : ℕ) → i < (dbg .size) / entrySize 8 → selected 8 (c .names) (entryOf 8 (tableAt c dbg) i) ≡ true → Dumpable 8 (entryOf 8 (tableAt c dbg) i)
+Safe c dbg = SafeOf c dbg (fieldIn dbg)
 
 module _ (c : Setting) (dbg : Debug) (en : Ending) (k i : ℕ) (w : Ghost) (g : GoodBetween c dbg k i w) where
-  -- 1,024 entries of at most 2^53 chunks each, and the table
-  pub limits : (readsLimit (w .session) || phaseLimit 8 (w .session .window) (P.Between k i) (w .table) (w .reply)) ≡ false
+  -- the session's width, and the bytes of its numbers
+  abbrev v : Width
+  v = w .session .width
+
+  abbrev f : ℕ
+  f = fieldSize v
+
+  pub limits : (readsLimit (w .session) || phaseLimit f (w .session .window) (P.Between k i) (w .table) (w .reply)) ≡ false
   limits =
       rw (
         g .declared,
-        le-ltb (2 ^ 63 + 1) (w .session .reads) (omega (arith, g .fits, g .entry, g .reads)),
+        le-ltb (2 ^ 63 + 1) (w .session .reads) (reads-within v (w .session .reads) (dbg .size) i (g .reads) (g .entry) (omega (arith, g .fits))),
         le-ltb (length (w .table)) (dbg .size) (omega (arith, g .fits)),
-        le-ltb ((dbg .size) / entrySize 8) i (g .entry),
+        le-ltb ((dbg .size) / entrySize f) i (g .entry),
       )
       refl
 
@@ -157,33 +173,36 @@ module _ (c : Setting) (dbg : Debug) (en : Ending) (k i : ℕ) (w : Ghost) (g : 
     t = tableAt c dbg
 
     abbrev left : ℕ
-    left = (dbg .size) / entrySize 8 - i
+    left = (dbg .size) / entrySize f - i
 
     abbrev found : ℕ
-    found = nextOf 8 (c .names) (w .table) left i
+    found = nextOf f (c .names) (w .table) left i
 
     abbrev e : List ℕ
-    e = entryOf 8 t found
+    e = entryOf f t found
 
     room-for : (dbg .size) ≤ length (w .table)
     room-for = omega (arith, g .fits)
 
-    entries : i + left ≡ (dbg .size) / entrySize 8
+    entries : i + left ≡ (dbg .size) / entrySize f
     entries = omega (arith, g .entry)
 
-    here : found < (dbg .size) / entrySize 8 → Hit 8 (w .table) t (dbg .size) (g .table) room-for (c .names) left i
-    here h = hit 8 (w .table) t (dbg .size) (g .table) room-for (c .names) left i (omega (arith, entries)) (rw entries h)
+    here : found < (dbg .size) / entrySize f → Hit f (w .table) t (dbg .size) (g .table) room-for (c .names) left i
+    here h = hit f (w .table) t (dbg .size) (g .table) room-for (c .names) left i (omega (arith, entries)) (rw entries h)
+
+    allowed : SafeOf c dbg f
+    allowed = rw (g .width) safe
 
     -- a selected entry is opened
-    enter : found < (dbg .size) / entrySize 8
+    enter : found < (dbg .size) / entrySize f
         → Keeps
-        (outcome (gives (inPhase (w .session) (P.Region (dbg .size) (region found (baseOf 8 e) (lengthOf 8 e) 0 0 false))) 0 (A.Open found))
+        (outcome (gives (inPhase (w .session) (P.Region (dbg .size) (region found (baseOf f e) (lengthOf f e) 0 0 false))) 0 (A.Open found))
         (w .table) (w .reply) (w .out))
     enter h =
-        let f : toCome c dbg i ≡ found ∷ toCome c dbg (suc found) = rw entries at (here h .first) in
-        let y : Dumpable 8 e = safe found h (here h .chose) in
+        let q : toCome c dbg v i ≡ found ∷ toCome c dbg v (suc found) = rw entries at (here h .first) in
+        let y : Dumpable f e = allowed found h (here h .chose) in
         let u : Opening = w .session .opening in
-        let m : chunkCount u (lengthOf 8 e) ≤ 2 ^ 53 = count-most u (chunk-good u) (lengthOf 8 e) (omega (arith, y .top)) in
+        let m : chunkCount u (lengthOf f e) ≤ mostReads v = count-most u (chunk-good u) v (lengthOf f e) (omega (arith, y .top)) in
         record {
           good =
               record {
@@ -192,33 +211,34 @@ module _ (c : Setting) (dbg : Debug) (en : Ending) (k i : ℕ) (w : Ghost) (g : 
                 fits = g .fits;
                 table = g .table;
                 queue = rw (append-nil, no-bytes) (g .queue);
+                width = g .width;
                 entry = h;
-                reads = rw (sub-zero (lengthOf 8 e)) (omega (arith, m, g .reads, here h .later));
-                named = rw (entry-same 8 (w .table) t (dbg .size) (g .table) room-for found h) (sound-after-open (filenameOf 8 e) (y .named));
+                reads = rw (sub-zero (lengthOf f e)) (reads-more v (w .session .reads) (chunkCount u (lengthOf f e)) i found (g .reads) m (here h .later));
+                named = rw (entry-same f (w .table) t (dbg .size) (g .table) room-for found h) (sound-after-open (filenameOf f e) (y .named));
                 within = omega arith;
                 top = y .top;
                 cut = λ p. refl;
                 idle = λ p. refl;
               };
-          told = rw (f, open-law, sub-zero (lengthOf 8 e)) (regions-cons 8 (w .session .opening) (c .mem) t found _ _);
-          fell = rw (f, cost-cons) (omega arith);
+          told = rw (q, open-law, sub-zero (lengthOf f e)) (regions-cons v (w .session .opening) (c .mem) t found _ _);
+          fell = rw (q, cost-cons) (omega arith);
         }
 
     -- none is left
-    finish : (dbg .size) / entrySize 8 ≤ found
+    finish : (dbg .size) / entrySize f ≤ found
         → Keeps (outcome (gives (ended (w .session)) 0 (A.Finished 3 (w .session .reads))) (w .table) (w .reply) (w .out))
     finish h =
-        let f : toCome c dbg i ≡ [] =
-        miss 8 (w .table) t (dbg .size) (g .table) room-for (c .names) left i (omega (arith, entries)) (rw entries h) in
-        record { good = g .out; told = rw f (regions-end 8 (w .session .opening) (c .mem) t _); fell = omega arith }
+        let q : toCome c dbg v i ≡ [] =
+        miss f (w .table) t (dbg .size) (g .table) room-for (c .names) left i (omega (arith, entries)) (rw entries h) in
+        record { good = g .out; told = rw q (regions-end v (w .session .opening) (c .mem) t _); fell = omega arith }
 
-    pub between : Keeps (outcome (betweenOf 8 (w .session) k i (c .names) (w .table)) (w .table) (w .reply) (w .out))
+    pub between : Keeps (outcome (betweenOf f (w .session) k i (c .names) (w .table)) (w .table) (w .reply) (w .out))
     unfolding betweenOf
     between =
-        by-test (ltb found ((dbg .size) / entrySize 8))
+        by-test (ltb found ((dbg .size) / entrySize f))
         (λ m.
-        let h : found < (dbg .size) / entrySize 8 = ltb-true _ _ m in
-        let f : entryOf 8 (w .table) found ≡ e = entry-same 8 (w .table) t (dbg .size) (g .table) room-for found h in
-        let y : openCheck (filenameOf 8 e) ≡ N.Good = sound-open (filenameOf 8 e) (safe found h (here h .chose) .named) in
-        via c dbg en (rw (g .declared, m, f, y) refl) (enter h))
+        let h : found < (dbg .size) / entrySize f = ltb-true _ _ m in
+        let q : entryOf f (w .table) found ≡ e = entry-same f (w .table) t (dbg .size) (g .table) room-for found h in
+        let y : openCheck (filenameOf f e) ≡ N.Good = sound-open (filenameOf f e) (allowed found h (here h .chose) .named) in
+        via c dbg en (rw (g .declared, m, q, y) refl) (enter h))
         (λ m. via c dbg en (rw (g .declared, m) refl) (finish (ltb-false _ _ m)))

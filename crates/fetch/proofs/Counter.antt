@@ -1,4 +1,4 @@
--- The counter of memory reads: after any list of steps from the opening, fair or not, it is the number of MemRead64 packets that the list reports,
+-- The counter of memory reads: after any list of steps from the opening, fair or not, it is the number of memory reads that the list reports,
 -- and an end comes last and carries it. By the branches of a step, then by induction on the list. Assumes nothing.
 use mathlib.Core.Path.{_≡_, refl, sym, ap, subst, _∙_}
 use mathlib.Core.Bool.{Bool, true, false, not, _||_}
@@ -9,6 +9,7 @@ use native.Mathlib.Nat.{add-zero, add-assoc, zero-add}
 use lib.Dec.{eqb, ltb, leb}
 use lib.ListN.{length, take, drop}
 use Rattle.bundle.specs.Bundle.{wellFormed}
+use Rattle.field.specs.Field.{fieldSize}
 use Rattle.entry.specs.Entry.{entryOf, filenameOf}
 use Rattle.filename.specs.Filename.{openCheck, afterOpenCheck}
 use Rattle.filename.specs.declared.NameCheck.{NameCheck}
@@ -32,7 +33,7 @@ use Rattle.session.specs.Outcome.{Outcome, outcome, gives, isEnded}
 use Rattle.session.specs.PacketPhase.{keep, acted, wholeOf, sizedOf, packetOf}
 use Rattle.session.specs.FillingPhase.{responseOf, switchedOf, tableOf}
 use Rattle.session.specs.BetweenPhase.{entriesIn, openOf, betweenOf}
-use Rattle.session.specs.RegionPhase.{nextChunk, begunOf, askOf, handOf, regionOf}
+use Rattle.session.specs.RegionPhase.{pastEnd, nameIn, nextChunk, begunOf, askOf, handOf, regionOf}
 use Rattle.session.specs.Limits.{limitOf}
 use Rattle.session.specs.Step.{onPhase, stepOf}
 use Rattle.steps.specs.Steps.{one, final}
@@ -176,7 +177,7 @@ module _ (s : Session) (d set : List ℕ) where
     acted-counts n w W.Pass h = silent _ n A.Go t y o refl none refl
     acted-counts n w (W.Finish how) h = ends-here how _ n t y o refl refl tt
     acted-counts n w (W.Respond c k) h = sends (Q.ExecuteData c) _ n t y o (sym (add-zero (s .reads))) tt
-    acted-counts n w (W.Debug a k) h = sends (Q.MemRead64 a k) _ n t y o (rw none refl) tt
+    acted-counts n w (W.Debug x a k) h = sends (Q.MemRead x a k) _ n t y o (rw none refl) tt
     acted-counts n w (W.Refused why) h = silent _ n (A.Refused why) t y o refl tt refl
 
     packet-counts : (h : ℕ) → Counts (packetOf s h d set t y o)
@@ -197,6 +198,10 @@ module _ (s : Session) (d set : List ℕ) where
   -- ---- the other phases
 
   module _ (calm : Calm s) (names t y o : List ℕ) where
+    -- the bytes of the session's numbers
+    abbrev f : ℕ
+    f = fieldSize (s .width)
+
     response-counts : (x : Filling) → Counts (responseOf s x d t y o)
     unfolding responseOf
     response-counts x =
@@ -213,16 +218,16 @@ module _ (s : Session) (d set : List ℕ) where
         split Counts (ltb (x .filled + min (x .declared - x .filled) (length d)) (x .declared)) (λ e. silent _ _ A.Go _ y o refl tt refl)
         (λ e. silent _ _ A.Go _ y o refl tt refl)
 
-    opening-counts : (k i : ℕ) (e : List ℕ) (v : NameCheck) → Counts (outcome (openOf 8 s k i e v) t y o)
+    opening-counts : (k i : ℕ) (e : List ℕ) (v : NameCheck) → Counts (outcome (openOf f s k i e v) t y o)
     opening-counts k i e N.Good = single (opened i) _ 0 (A.Open i) t y o refl tt refl refl refl tt
     opening-counts k i e (N.Refused why) = silent _ 0 (A.Refused why) t y o refl tt refl
 
-    between-counts : (k from : ℕ) → Counts (outcome (betweenOf 8 s k from names t) t y o)
+    between-counts : (k from : ℕ) → Counts (outcome (betweenOf f s k from names t) t y o)
     unfolding betweenOf
     between-counts k from =
-        let i : ℕ = nextOf 8 names t (entriesIn 8 k - from) from in
-        split (λ v. Counts (outcome v t y o)) (ltb i (entriesIn 8 k))
-        (λ e. opening-counts k i (entryOf 8 t i) (openCheck (filenameOf 8 (entryOf 8 t i))))
+        let i : ℕ = nextOf f names t (entriesIn f k - from) from in
+        split (λ v. Counts (outcome v t y o)) (ltb i (entriesIn f k))
+        (λ e. opening-counts k i (entryOf f t i) (openCheck (filenameOf f (entryOf f t i))))
         (λ e. ends-here 3 _ 0 t y o refl refl tt)
 
     module _ (k : ℕ) (x : Region) where
@@ -230,17 +235,17 @@ module _ (s : Session) (d set : List ℕ) where
       unfolding nextChunk
       next-counts =
           split Counts (leb (x .len) (x .done)) (λ e. single (closed (x .entry)) _ 0 (A.Close (x .entry)) t y o refl tt refl refl refl tt)
-          (λ e. sends (Q.MemRead64 _ _) _ 0 t y o (omega arith) tt)
+          (λ e. sends (Q.MemRead (s .width) _ _) _ 0 t y o (omega arith) tt)
 
-      begun-counts : (v : NameCheck) → Counts (begunOf 8 s k x t y o v)
+      begun-counts : (v : NameCheck) → Counts (begunOf s k x t y o v)
       begun-counts N.Good =
-          split Counts (ltb (256 ^ 8) (x .base + x .len)) (λ e. silent _ 0 (A.Refused 22) t y o refl tt refl) (λ e. next-counts)
+          split Counts (ltb (256 ^ f) (x .base + x .len)) (λ e. silent _ 0 (A.Refused (pastEnd (s .width))) t y o refl tt refl) (λ e. next-counts)
       begun-counts (N.Refused why) = silent _ 0 (A.Refused why) t y o refl tt refl
 
-      ask-counts : Counts (askOf 8 s k x t y o)
+      ask-counts : Counts (askOf s k x t y o)
       unfolding askOf
       ask-counts =
-          split Counts (eqb (x .done) 0) (λ e. begun-counts (afterOpenCheck (filenameOf 8 (entryOf 8 t (x .entry))))) (λ e. next-counts)
+          split Counts (eqb (x .done) 0) (λ e. begun-counts (afterOpenCheck (nameIn (s .width) t x))) (λ e. next-counts)
 
       hand-counts : Counts (handOf s k x d t y o)
       unfolding handOf
@@ -254,7 +259,7 @@ module _ (s : Session) (d set : List ℕ) where
             ends = rw (no-end (take (min (x .outstanding) (length d)) d)) (λ f. differ f);
           })
 
-      region-counts : Counts (regionOf 8 s k x d t y o)
+      region-counts : Counts (regionOf s k x d t y o)
       unfolding regionOf
       region-counts =
           split Counts (x .due) (λ e. single emptyRead _ 0 A.EmptyRead t y o refl tt refl refl refl tt)

@@ -5,17 +5,19 @@ use mathlib.Core.Bool.{false}
 use mathlib.Core.List.{List, [], _∷_, _++_}
 use Prim.Native.Nat.{ℕ, zero, suc, _+_, _-_, _^_, _≤_, _<_}
 use native.Mathlib.Omega.{arith}
-use native.Mathlib.Nat.{add-zero, suc-add, add-suc, sub-zero, suc-sub-suc}
+use native.Mathlib.Nat.{add-zero, suc-add, add-suc, sub-zero, suc-sub-suc, mul-zero, mul-one}
 use lib.ListN.{length, take, drop, length-take}
 use lib.Seq.{take-take}
-use Rattle.field.specs.Field.{leBytes}
-use Rattle.field.proofs.Laws.{le-of-bytes}
-use Rattle.packet.specs.Packet.{long}
+use Rattle.field.specs.Field.{le, leBytes, fieldSize}
+use Rattle.field.specs.declared.Width.{Width}
+use Rattle.field.specs.declared.Width.the-variants as WI
+use Rattle.packet.specs.Packet.{addressIn, lengthIn}
 use Rattle.build.specs.Build.{fields, bytesOf}
 use Rattle.build.specs.declared.Request.the-variants as Q
-use Rattle.fetch.specs.Plain.{isRead, bytesAt}
+use Rattle.build.proofs.RoundTrip.{numbers-back}
+use Rattle.fetch.specs.Plain.{isRead, readsAs, bytesAt}
 use Rattle.fetch.specs.Device.{served}
-use Rattle.fetch.proofs.Sent.{asks-read}
+use Rattle.base.proofs.Tests.{neither}
 
 pub no-bytes : (mem : ℕ → ℕ) (at : ℕ) → bytesAt mem at 0 ≡ []
 unfolding bytesAt
@@ -51,7 +53,9 @@ bytesAt-split mem a (suc k) (suc j) h =
 -- a packet that is no memory read gets nothing
 pub unserved : (mem : ℕ → ℕ) (p : List ℕ) → isRead p ≡ false → served mem p ≡ []
 unfolding served
-unserved mem p e = rw e refl
+unserved mem p e =
+    let q = neither (readsAs WI.Bits32 p) (readsAs WI.Bits64 p) e in
+    rw (q .0, q .1) refl
 
 -- where no byte is asked for, no address is read
 at-address : (mem : ℕ → ℕ) (a b k m : ℕ) → a + k ≤ m → (a < m → b ≡ a) → bytesAt mem b k ≡ bytesAt mem a k
@@ -59,20 +63,31 @@ unfolding bytesAt
 at-address mem a b zero m h f = refl
 at-address mem a b (suc k) m h f = ap (λ (x : ℕ). bytesAt mem x (suc k)) (f (omega arith))
 
-read-address : (a k : ℕ) → a < 256 ^ 8 → long (bytesOf (Q.MemRead64 a k)) 0 ≡ a
-unfolding bytesOf fields leBytes
-read-address a k h = le-of-bytes 8 a (leBytes 8 k ++ []) h
+-- a memory read of either width is answered by the address and the length in it
+served-as : (mem : ℕ → ℕ) (v : Width) (a k : ℕ)
+    → served mem (bytesOf (Q.MemRead v a k))
+    ≡ bytesAt mem (addressIn (fieldSize v) (bytesOf (Q.MemRead v a k))) (lengthIn (fieldSize v) (bytesOf (Q.MemRead v a k)))
+unfolding served bytesOf fields le leBytes
+served-as mem WI.Bits32 a k = refl
+served-as mem WI.Bits64 a k = refl
 
-read-length : (a k : ℕ) → k < 256 ^ 8 → long (bytesOf (Q.MemRead64 a k)) 1 ≡ k
-unfolding bytesOf fields leBytes
-read-length a k h = le-of-bytes 8 k [] h
+read-address : (v : Width) (a k : ℕ) → a < 256 ^ fieldSize v → addressIn (fieldSize v) (bytesOf (Q.MemRead v a k)) ≡ a
+read-address v a k h = rw mul-zero at (numbers-back (Q.MemRead v a k) 0 (omega arith) h)
+
+read-length : (v : Width) (a k : ℕ) → k < 256 ^ fieldSize v → lengthIn (fieldSize v) (bytesOf (Q.MemRead v a k)) ≡ k
+read-length v a k h = rw mul-one at (numbers-back (Q.MemRead v a k) 1 (omega arith) h)
+
+-- a table and a chunk have at most 65,536 bytes, which either width holds
+length-held : (v : Width) (k : ℕ) → k ≤ 65536 → k < 256 ^ fieldSize v
+length-held WI.Bits32 k h = omega arith
+length-held WI.Bits64 k h = omega arith
 
 -- the device reads back the address and the length that the host wrote
-pub served-read : (mem : ℕ → ℕ) (a k : ℕ) → a + k ≤ 256 ^ 8 → k ≤ 65536 → served mem (bytesOf (Q.MemRead64 a k)) ≡ bytesAt mem a k
-unfolding served
-served-read mem a k h l =
-    rw (asks-read (Q.MemRead64 a k), read-length a k (omega arith))
-    (at-address mem a (long (bytesOf (Q.MemRead64 a k)) 0) k (256 ^ 8) h (read-address a k))
+pub served-read : (mem : ℕ → ℕ) (v : Width) (a k : ℕ) → a + k ≤ 256 ^ fieldSize v → k ≤ 65536
+    → served mem (bytesOf (Q.MemRead v a k)) ≡ bytesAt mem a k
+served-read mem v a k h l =
+    rw (served-as mem v a k, read-length v a k (length-held v k l))
+    (at-address mem a (addressIn (fieldSize v) (bytesOf (Q.MemRead v a k))) k (256 ^ fieldSize v) h (read-address v a k))
 
 -- ---- deliveries: beginnings of the queue, empty only when nothing is queued
 

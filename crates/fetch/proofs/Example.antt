@@ -1,23 +1,24 @@
--- The claim is about something. Deliveries of every size lead to the whole (`driven`). By computation: devices are covered, one that comes to a memory debug on
--- both backends and three that do not, and a list of odd deliveries and of steps refused, lent some of the run's own things and some others, runs on it, with its whole report. Assumes nothing.
+-- The claim is about something. Deliveries of every size lead to the whole (`driven`). By computation: devices are covered, one that comes to a memory debug of
+-- either width on both backends and three that do not, and a list of odd deliveries and of steps refused, lent some of the run's own things and some others, runs
+-- on it, with its whole report. Assumes nothing.
 use mathlib.Core.Path.{_≡_, refl, _∙_}
-use mathlib.Core.Bool.{true}
 use mathlib.Core.List.{List, [], _∷_, _++_, map}
-use Prim.Native.Nat.{ℕ, zero, suc, _+_, _*_, _%_, _≤_, _<_}
+use Prim.Native.Nat.{ℕ, _+_, _-_, _*_, _%_, _^_, _≤_}
 use native.Mathlib.Omega.{arith}
 use lib.Dec.{ltb, lit≤, T}
 use lib.ListN.{take, getD, replicate}
 use Rattle.base.specs.Choice.{pick}
-use Rattle.field.specs.Field.{le, leBytes}
+use Rattle.field.specs.Field.{le, leBytes, fieldSize}
+use Rattle.field.specs.declared.Width.{Width}
+use Rattle.field.specs.declared.Width.the-variants as WI
 use Rattle.utf8.specs.Utf8.{table, leads, afterFirst, goesOn}
 use Rattle.bundle.specs.Bundle.{slotsGood, wellFormed, slotOf}
-use Rattle.entry.specs.Entry.{entryOf}
 use Rattle.filename.specs.Filename.{before, has, stemOf, openCheck, afterOpenCheck, sound}
 use Rattle.selection.specs.Selection.{low, namesFrom, same, member, selected, nextOf}
 use Rattle.command.specs.Command.{modeOf, kinds, unimplemented, classOf}
 use Rattle.command.specs.declared.SaharaMode.the-variants as M
 use Rattle.packet.specs.Packet.{kindOf, decodeOf}
-use Rattle.build.specs.Build.{fields, words, longs, bytesOf}
+use Rattle.build.specs.Build.{fields, words, bytesOf}
 use Rattle.build.specs.declared.Request.the-variants as Q
 use Rattle.verdict.specs.Opening.{chunkOf, onUsb}
 use Rattle.verdict.specs.Verdict.{verdictOf}
@@ -49,7 +50,6 @@ use Rattle.fetch.specs.Plain.{
   emptyIf,
   chunks,
   regions,
-  tableIn,
   dump,
   reportsOf,
   Setting,
@@ -57,8 +57,8 @@ use Rattle.fetch.specs.Plain.{
   plain,
 }
 use Rattle.fetch.specs.Device.{definitions, own, other, first, another, Lent, served, start}
-use Rattle.fetch.specs.Claim.{Run, reports, regionBytes, regionReads, enough, Dumpable, Premises, Covered, dumps, stops, enoughFor}
-use Rattle.fetch.proofs.Played.{lending, drive, drive-fair, drive-owns, allFair, played-fair}
+use Rattle.fetch.specs.Claim.{Run, reports, regionBytes, regionReads, enough, Premises, Covered, dumps, stops, enoughFor}
+use Rattle.fetch.proofs.Played.{lending, drive, drive-fair, drive-owns, allFair, played-fair, tested}
 use Rattle.fetch.proofs.Theorem.{fetch}
 
 -- ---- deliveries of every size lead to the plain host's whole report
@@ -70,11 +70,20 @@ driven c x m e =
     fetch c x (drive m k) (drive-fair definitions c m k (start definitions c) e) .whole
     (omega (arith, drive-owns definitions c m k (start definitions c)))
 
--- ---- a device
+-- ---- a device of either width
+
+-- a memory debug and a memory read as the documents write them: MemDebug (9) and MemRead (0x0a), MemDebug64 (0x10) and MemRead64 (0x11)
+abbrev pub debugBytes : Width → ℕ → ℕ → List ℕ
+debugBytes WI.Bits32 a k = words (9 ∷ 16 ∷ a ∷ k ∷ [])
+debugBytes WI.Bits64 a k = words (0x10 ∷ 24 ∷ []) ++ fields 8 (a ∷ k ∷ [])
+
+abbrev pub readBytes : Width → ℕ → ℕ → List ℕ
+readBytes WI.Bits32 a k = words (0x0a ∷ 16 ∷ a ∷ k ∷ [])
+readBytes WI.Bits64 a k = words (0x11 ∷ 24 ∷ []) ++ fields 8 (a ∷ k ∷ [])
 
 -- an entry, its name filled up with zeros
-abbrev pub entryBytes : ℕ → ℕ → ℕ → List ℕ → List ℕ
-entryBytes pref base len name = leBytes 8 pref ++ (leBytes 8 base ++ (leBytes 8 len ++ (replicate 20 0 ++ take 20 (name ++ replicate 20 0))))
+abbrev pub entryBytes : Width → ℕ → ℕ → ℕ → List ℕ → List ℕ
+entryBytes v pref base len name = fields (fieldSize v) (pref ∷ base ∷ len ∷ []) ++ (replicate 20 0 ++ take 20 (name ++ replicate 20 0))
 
 -- "OCIMEM", "DDRCS0" and ".BIN"; the same lowered
 abbrev ocimem : List ℕ
@@ -86,56 +95,66 @@ ddrcs0 = 0x44 ∷ 0x44 ∷ 0x52 ∷ 0x43 ∷ 0x53 ∷ 0x30 ∷ []
 abbrev bin : List ℕ
 bin = 0x2E ∷ 0x42 ∷ 0x49 ∷ 0x4E ∷ []
 
--- three entries at 0: a region longer than a chunk, one whose name matches none (zeros belong to its stem), and one of length 0
-abbrev entries : List ℕ
-entries =
-    entryBytes 0 1000 5000 (ocimem ++ bin) ++ (entryBytes 1 2000 7 ddrcs0 ++ entryBytes 0 70000 0 (ddrcs0 ++ bin))
+-- 3 bytes below the end of the memory, 2^32 or 2^64
+abbrev high : Width → ℕ
+high v = 256 ^ fieldSize v - 3
 
--- Hello, ReadData of 2 bytes from 1 on of image 7, EndOfImage, MemDebug64 of 192 bytes at 0
-abbrev openingBytes : List ℕ
-openingBytes =
+-- four entries at 0: a region longer than a chunk; one that no name selects (zeros belong to its stem) and that ends behind the memory; one of length 0; and one
+-- that ends with the memory. Behind them 5 bytes that are no entry
+abbrev entries : Width → List ℕ
+entries v =
+    entryBytes v 0 1000 5000 (ocimem ++ bin)
+    ++ (entryBytes v 1 (high v) 7 ddrcs0 ++ (entryBytes v 0 70000 0 (ddrcs0 ++ bin) ++ (entryBytes v 0 (high v) 3 (ocimem ++ bin) ++ replicate 5 1)))
+
+-- their bytes: 4 * 52 + 5, 4 * 64 + 5
+abbrev tableSize : Width → ℕ
+tableSize WI.Bits32 = 213
+tableSize WI.Bits64 = 261
+
+-- Hello, ReadData of 2 bytes from 1 on of image 7, EndOfImage, a memory debug of the table at 0
+abbrev openingBytes : Width → List ℕ
+openingBytes v =
     words (1 ∷ 48 ∷ 2 ∷ 1 ∷ 0 ∷ 2 ∷ 0 ∷ 0 ∷ 0 ∷ 0 ∷ 0 ∷ 0 ∷ [])
-    ++ (words (3 ∷ 20 ∷ 7 ∷ 1 ∷ 2 ∷ []) ++ (words (4 ∷ 16 ∷ 7 ∷ 0 ∷ []) ++ (words (16 ∷ 24 ∷ []) ++ longs (0 ∷ 192 ∷ []))))
+    ++ (words (3 ∷ 20 ∷ 7 ∷ 1 ∷ 2 ∷ []) ++ (words (4 ∷ 16 ∷ 7 ∷ 0 ∷ []) ++ debugBytes v 0 (tableSize v)))
 
 abbrev pub on : QdlBackend → Opening
 on b = record { mode = M.MemoryDebug; command = X.None; backend = b }
 
--- the table, and computed bytes behind it; one image of 3 bytes; the names "ocimem" and "ddrcs0"; buffers of 192 bytes (table), none (reply), 48 (out)
-abbrev device : QdlBackend → Setting
-device b =
+-- the table, and computed bytes behind it; one image of 3 bytes; the names "ocimem" and "ddrcs0"; a table buffer of its size, no reply buffer, 48 bytes out
+abbrev device : Width → QdlBackend → Setting
+device v b =
     record {
       opening = on b;
       set = words (1 ∷ 3 ∷ 0 ∷ 3 ∷ []) ++ (10 ∷ 11 ∷ 12 ∷ []);
       names = words (2 ∷ 12 ∷ 0 ∷ 6 ∷ 6 ∷ 6 ∷ []) ++ (map low ocimem ++ map low ddrcs0);
-      table = replicate 192 0;
+      table = replicate (tableSize v) 0;
       reply = [];
       out = replicate 48 0;
-      bytes = openingBytes;
-      mem = λ a. pick (ltb a 192) (getD entries a 0) (a % 251);
+      bytes = openingBytes v;
+      mem = λ a. pick (ltb a (tableSize v)) (getD (entries v) a 0) (a % 251);
     }
 
-abbrev dbg : Debug
-dbg = debug 0 192
+abbrev dbg : Width → Debug
+dbg v = debug v 0 (tableSize v)
 
 -- ---- it meets the premises
 
-dumpable : (b : QdlBackend) (i : ℕ) → i < 3 → selected 8 (device b .names) (entryOf 8 (tableIn (device b .mem) dbg) i) ≡ true
-    → Dumpable 8 (entryOf 8 (tableIn (device b .mem) dbg) i)
-unfolding selected stemOf before low namesFrom slotOf same member sound has goesOn leads afterFirst table bytesAt fields le leBytes
-dumpable b zero h e = record { top = lit≤ tt; named = refl }
-dumpable b (suc zero) h e = absurd (let z : _≡_ {A = ℕ} 0 1 = cc in omega arith)
-dumpable b (suc (suc zero)) h e = record { top = lit≤ tt; named = refl }
-dumpable b (suc (suc (suc i))) h e = absurd (omega arith)
+premises : (v : Width) (b : QdlBackend) → Premises (device v b) (dbg v)
+unfolding hosted hear wellFormed slotsGood slotOf verdictOf decodeOf classOf kinds kindOf modeOf selected stemOf before low namesFrom same member sound has goesOn
+    leads afterFirst table bytesAt fields le leBytes
+premises WI.Bits32 b = tested (device WI.Bits32 b) (dbg WI.Bits32) refl (lit≤ tt) tt
+premises WI.Bits64 b = tested (device WI.Bits64 b) (dbg WI.Bits64) refl (lit≤ tt) tt
 
-premises : (b : QdlBackend) → Premises (device b) dbg
-unfolding hosted hear wellFormed slotsGood slotOf verdictOf decodeOf classOf kinds kindOf modeOf bytesAt fields le leBytes
-premises b = record { opens = refl; top = lit≤ tt; regions = dumpable b }
+-- opening bytes, the table's, 5,003 of regions; three regions; four memory reads
+abbrev count : Width → ℕ
+count WI.Bits32 = 100 + 213 + 5003 + 2 * 3 + 2 * 4
+count WI.Bits64 = 108 + 261 + 5003 + 2 * 3 + 2 * 4
 
--- 108 opening bytes, 192 of the table, 5,000 of regions; two regions; three memory reads
-steps : (b : QdlBackend) → enough (device b) dbg ≡ 108 + 192 + 5000 + 2 * 2 + 2 * 3
+steps : (v : Width) (b : QdlBackend) → enough (device v b) (dbg v) ≡ count v
 unfolding enough regionBytes regionReads chunkOf chosen selected stemOf before low namesFrom slotOf same member has goesOn leads afterFirst table
     bytesAt fields le leBytes
-steps b = refl
+steps WI.Bits32 b = refl
+steps WI.Bits64 b = refl
 
 -- ---- a list of steps
 
@@ -170,55 +189,72 @@ moves =
     ∷ lending (first 1)
     ∷ lending (first 1)
     ∷ lending (first 1)
+    ∷ lending (first 1)
+    ∷ lending (first 2)
+    ∷ lending (first 2)
+    ∷ lending (first 1)
+    ∷ lending (first 1)
     ∷ lending (another (1 ∷ 2 ∷ []))
     ∷ []
 
-each : (b : QdlBackend) → T (allFair definitions (device b) moves (start definitions (device b)))
+each : (v : Width) (b : QdlBackend) → T (allFair definitions (device v b) moves (start definitions (device v b)))
 unfolding allFair stepOf limitOf packetOf sizedOf wholeOf tableOf betweenOf nextChunk askOf handOf regionOf chunkOf openCheck afterOpenCheck
     nextOf served wellFormed slotsGood slotOf verdictOf decodeOf classOf kinds kindOf modeOf bytesOf selected stemOf before low namesFrom
     same member has goesOn leads afterFirst table bytesAt fields le leBytes
-each U.Serial = tt
-each U.Usb = tt
+each WI.Bits32 U.Serial = tt
+each WI.Bits32 U.Usb = tt
+each WI.Bits64 U.Serial = tt
+each WI.Bits64 U.Usb = tt
 
--- the list is fair on both backends
-fair : (b : QdlBackend) → Run definitions (device b) (start definitions (device b)) moves
-fair b = played-fair definitions (device b) moves (start definitions (device b)) (each b)
+-- the list is fair, of both widths on both backends
+fair : (v : Width) (b : QdlBackend) → Run definitions (device v b) (start definitions (device v b)) moves
+fair v b = played-fair definitions (device v b) moves (start definitions (device v b)) (each v b)
 
 -- ---- what is reported
 
 -- on USB an empty read comes after the first chunk: 4,096 is a multiple of 512, and 904 is not
-abbrev told : QdlBackend → List Report
-told b =
+abbrev told : Width → QdlBackend → List Report
+told v b =
     sent (bytesOf (Q.HelloResp M.MemoryDebug))
     ∷ image (11 ∷ 12 ∷ [])
     ∷ sent (bytesOf Q.Done)
-    ∷ sent (bytesOf (Q.MemRead64 0 192))
+    ∷ sent (readBytes v 0 (tableSize v))
     ∷ opened 0
-    ∷ sent (bytesOf (Q.MemRead64 1000 4096))
-    ∷ (map byte (bytesAt (device b .mem) 1000 4096)
+    ∷ sent (readBytes v 1000 4096)
+    ∷ (map byte (bytesAt (device v b .mem) 1000 4096)
     ++ (emptyIf (onUsb (on b))
-    ++ (sent (bytesOf (Q.MemRead64 5096 904))
-    ∷ (map byte (bytesAt (device b .mem) 5096 904) ++ (closed 0 ∷ opened 2 ∷ closed 2 ∷ finished 3 3 ∷ [])))))
+    ++ (sent (readBytes v 5096 904)
+    ∷ (map byte (bytesAt (device v b .mem) 5096 904)
+    ++ (closed 0
+    ∷ opened 2
+    ∷ closed 2
+    ∷ opened 3
+    ∷ sent (readBytes v (high v) 3)
+    ∷ (map byte (bytesAt (device v b .mem) (high v) 3) ++ (closed 3 ∷ finished 3 4 ∷ [])))))))
 
 -- by the list of steps
-played : (b : QdlBackend) → reports definitions (device b) (start definitions (device b)) moves ≡ told b
+played : (v : Width) (b : QdlBackend) → reports definitions (device v b) (start definitions (device v b)) moves ≡ told v b
 unfolding stepOf limitOf packetOf sizedOf wholeOf tableOf betweenOf nextChunk askOf handOf regionOf chunkOf openCheck afterOpenCheck
     nextOf served wellFormed slotsGood slotOf verdictOf decodeOf classOf kinds kindOf modeOf bytesOf selected stemOf before low namesFrom
     same member has goesOn leads afterFirst table bytesAt fields le leBytes
-played U.Serial = refl
-played U.Usb = refl
+played WI.Bits32 U.Serial = refl
+played WI.Bits32 U.Usb = refl
+played WI.Bits64 U.Serial = refl
+played WI.Bits64 U.Usb = refl
 
 -- by the plain host
-planned : (b : QdlBackend) → plain (device b) ≡ told b
+planned : (v : Width) (b : QdlBackend) → plain (device v b) ≡ told v b
 unfolding plain hosted hear reportsOf dump regions chunks chosen chunkOf wellFormed slotsGood slotOf verdictOf decodeOf classOf kinds kindOf
     modeOf bytesOf selected stemOf before low namesFrom same member goesOn leads afterFirst table bytesAt fields le leBytes
-planned U.Serial = refl
-planned U.Usb = refl
+planned WI.Bits32 U.Serial = refl
+planned WI.Bits32 U.Usb = refl
+planned WI.Bits64 U.Serial = refl
+planned WI.Bits64 U.Usb = refl
 
 -- and so by deliveries of every size
-anySize : (b : QdlBackend) (m : ℕ) → 1 ≤ m
-    → reports definitions (device b) (start definitions (device b)) (drive m (enough (device b) dbg)) ≡ told b
-anySize b m e = driven (device b) (dumps dbg (premises b)) m e ∙ planned b
+anySize : (v : Width) (b : QdlBackend) (m : ℕ) → 1 ≤ m
+    → reports definitions (device v b) (start definitions (device v b)) (drive m (enough (device v b) (dbg v))) ≡ told v b
+anySize v b m e = driven (device v b) (dumps (dbg v) (premises v b)) m e ∙ planned v b
 
 -- ---- devices that come to no memory debug: one that is done, with two bytes behind it that are no Sahara any more; one whose packet is refused (an unknown
 -- command); one that is cut short

@@ -1,13 +1,15 @@
 -- The invariant, by cases of the phase with its counts: what is well kept (goodAt), what the plain host would still report (dueAt), and a number that
 -- bounds the own steps left (boundAt). One step keeps it: Kept. en is how the plain host's opening ends, and dbg, where that is so, the memory debug that it
--- comes to. Assumes nothing.
+-- comes to. From the memory debug on the session's width is the debug's (`width`), and all else goes by the session's. Assumes nothing.
 use mathlib.Core.Path.{_≡_}
 use mathlib.Core.Bool.{Bool, true, false, not, _&&_}
 use mathlib.Core.List.{List, [], _∷_, _++_, map}
 use Prim.Native.Nat.{ℕ, suc, _+_, _-_, _*_, _/_, _%_, _^_, _≤_, _<_}
 use lib.Dec.{eqb}
 use lib.ListN.{length, take, drop}
-use Rattle.entry.specs.Entry.{entrySize, entryOf, filenameOf}
+use Rattle.field.specs.Field.{fieldSize}
+use Rattle.field.specs.declared.Width.{Width}
+use Rattle.entry.specs.Entry.{entrySize}
 use Rattle.filename.specs.Filename.{afterOpenCheck}
 use Rattle.filename.specs.declared.NameCheck.the-variants as N
 use Rattle.packet.specs.Packet.{lengthField, badLength}
@@ -19,6 +21,7 @@ use Rattle.session.specs.declared.Region.{Region}
 use Rattle.session.specs.declared.Phase.{Phase}
 use Rattle.session.specs.declared.Phase.the-variants as P
 use Rattle.session.specs.Outcome.{Outcome}
+use Rattle.session.specs.RegionPhase.{nameIn}
 use Rattle.steps.specs.Steps.{one}
 use Rattle.fetch.specs.Plain.{
   Report,
@@ -41,13 +44,14 @@ use Rattle.fetch.specs.Plain.{
   Setting,
 }
 use Rattle.fetch.specs.Claim.{regionBytes, regionReads}
+use Rattle.fetch.proofs.Chunk.{mostReads}
 use Rattle.fetch.proofs.Ghost.{Ghost, toldBy, afterStep}
 
 -- ---- inside a region
 
 -- the part of the step bound that the regions of some entries take
-unfoldable pub cost : Opening → List ℕ → List ℕ → ℕ
-cost u t is = regionBytes 8 t is + 2 * length is + 2 * regionReads 8 u t is
+unfoldable pub cost : Width → Opening → List ℕ → List ℕ → ℕ
+cost v u t is = regionBytes (fieldSize v) t is + 2 * length is + 2 * regionReads (fieldSize v) u t is
 
 -- what is not yet asked for in a region
 abbrev pub unasked : Region → ℕ
@@ -59,12 +63,12 @@ seam u e = onUsb u && eqb (e % 512) 0
 
 -- what is due inside a region, before what comes after its bytes: an empty read that is due, the bytes that were asked for, the empty read after
 -- them, and the chunks not yet asked for
-unfoldable pub inRegion : Opening → (ℕ → ℕ) → Region → List Report → List Report
-inRegion u mem x tail =
+unfoldable pub inRegion : Width → Opening → (ℕ → ℕ) → Region → List Report → List Report
+inRegion v u mem x tail =
     emptyIf (x .due)
     ++ (map byte (bytesAt mem (x .base + x .done) (x .outstanding))
     ++ (emptyIf (not (eqb (x .outstanding) 0) && seam u (x .done + x .outstanding))
-    ++ (chunks u mem (unasked x) (x .base + (x .done + x .outstanding)) (unasked x) ++ tail)))
+    ++ (chunks v u mem (unasked x) (x .base + (x .done + x .outstanding)) (unasked x) ++ tail)))
 
 -- the steps that are left inside a region
 abbrev pub boundIn : Opening → Region → ℕ
@@ -78,8 +82,8 @@ module _ (c : Setting) (dbg : Debug) where
   tableAt = tableIn (c .mem) dbg
 
   -- the entries from i on that are selected
-  abbrev pub toCome : ℕ → List ℕ
-  toCome i = chosen 8 (c .names) tableAt (dbg .size / entrySize 8 - i) i
+  abbrev pub toCome : Width → ℕ → List ℕ
+  toCome v i = chosen (fieldSize v) (c .names) tableAt (dbg .size / entrySize (fieldSize v) - i) i
 
   -- packet, h bytes held: the bytes held and the queue are what is left of the opening, which ends in en
   pub record GoodPacket (en : Ending) (h : ℕ) (w : Ghost) : Type 0 where
@@ -103,7 +107,7 @@ module _ (c : Setting) (dbg : Debug) where
   abbrev pub behind : Opening → Ending → ℕ
   behind u Stopped = 0
   behind u Responded = 0
-  behind u (Debugged b r) = dbg .size + 2 + cost u tableAt (toCome 0)
+  behind u (Debugged b r) = dbg .size + 2 + cost (dbg .width) u tableAt (toCome (dbg .width) 0)
 
   abbrev pub boundPacket : Ending → Ghost → ℕ
   boundPacket en w = length (w .queue) + behind (w .session .opening) en
@@ -116,13 +120,14 @@ module _ (c : Setting) (dbg : Debug) where
     pub filled : x .filled ≤ dbg .size
     pub table : take (x .filled) (w .table) ≡ take (x .filled) tableAt
     pub queue : w .queue ≡ drop (x .filled) tableAt
+    pub width : w .session .width ≡ dbg .width
     pub reads : w .session .reads ≡ 1
 
   abbrev pub dueTable : Ghost → List Report
-  dueTable w = regions 8 (w .session .opening) (c .mem) tableAt (toCome 0) 1
+  dueTable w = regions (w .session .width) (w .session .opening) (c .mem) tableAt (toCome (w .session .width) 0) 1
 
   abbrev pub boundTable : Filling → Ghost → ℕ
-  boundTable x w = dbg .size - x .filled + 2 + cost (w .session .opening) tableAt (toCome 0)
+  boundTable x w = dbg .size - x .filled + 2 + cost (w .session .width) (w .session .opening) tableAt (toCome (w .session .width) 0)
 
   -- between regions, from entry i on, k the declared length: the table is read, nothing is queued
   pub record GoodBetween (k i : ℕ) (w : Ghost) : Type 0 where
@@ -131,14 +136,15 @@ module _ (c : Setting) (dbg : Debug) where
     pub fits : dbg .size ≤ room (length (w .table))
     pub table : take (dbg .size) (w .table) ≡ tableAt
     pub queue : w .queue ≡ []
-    pub entry : i ≤ dbg .size / entrySize 8
-    pub reads : w .session .reads ≤ 1 + i * 2 ^ 53
+    pub width : w .session .width ≡ dbg .width
+    pub entry : i ≤ dbg .size / entrySize (fieldSize (w .session .width))
+    pub reads : w .session .reads ≤ 1 + i * mostReads (w .session .width)
 
   abbrev pub dueBetween : ℕ → Ghost → List Report
-  dueBetween i w = regions 8 (w .session .opening) (c .mem) tableAt (toCome i) (w .session .reads)
+  dueBetween i w = regions (w .session .width) (w .session .opening) (c .mem) tableAt (toCome (w .session .width) i) (w .session .reads)
 
   abbrev pub boundBetween : ℕ → Ghost → ℕ
-  boundBetween i w = 1 + cost (w .session .opening) tableAt (toCome i)
+  boundBetween i w = 1 + cost (w .session .width) (w .session .opening) tableAt (toCome (w .session .width) i)
 
   -- region x, k the table's declared length: the queue holds the bytes that were asked for and not yet handed out
   pub record GoodRegion (k : ℕ) (x : Region) (w : Ghost) : Type 0 where
@@ -147,23 +153,25 @@ module _ (c : Setting) (dbg : Debug) where
     pub fits : dbg .size ≤ room (length (w .table))
     pub table : take (dbg .size) (w .table) ≡ tableAt
     pub queue : w .queue ≡ bytesAt (c .mem) (x .base + x .done) (x .outstanding)
-    pub entry : x .entry < dbg .size / entrySize 8
-    pub reads : w .session .reads + chunkCount (w .session .opening) (unasked x) ≤ 1 + suc (x .entry) * 2 ^ 53
-    pub named : afterOpenCheck (filenameOf 8 (entryOf 8 (w .table) (x .entry))) ≡ N.Good
+    pub width : w .session .width ≡ dbg .width
+    pub entry : x .entry < dbg .size / entrySize (fieldSize (w .session .width))
+    pub reads : w .session .reads + chunkCount (w .session .opening) (unasked x) ≤ 1 + suc (x .entry) * mostReads (w .session .width)
+    pub named : afterOpenCheck (nameIn (w .session .width) (w .table) x) ≡ N.Good
     pub within : x .done + x .outstanding ≤ x .len
-    pub top : x .base + x .len ≤ 256 ^ 8
+    pub top : x .base + x .len ≤ 256 ^ fieldSize (w .session .width)
     pub cut : x .done + x .outstanding < x .len → (x .done + x .outstanding) % 512 ≡ 0
     pub idle : x .due ≡ true → x .outstanding ≡ 0
 
   abbrev pub dueRegion : Region → Ghost → List Report
   dueRegion x w =
-      inRegion (w .session .opening) (c .mem) x
+      inRegion (w .session .width) (w .session .opening) (c .mem) x
       (closed (x .entry)
-      ∷ regions 8 (w .session .opening) (c .mem) tableAt (toCome (suc (x .entry)))
+      ∷ regions (w .session .width) (w .session .opening) (c .mem) tableAt (toCome (w .session .width) (suc (x .entry)))
       (w .session .reads + chunkCount (w .session .opening) (unasked x)))
 
   abbrev pub boundRegion : Region → Ghost → ℕ
-  boundRegion x w = boundIn (w .session .opening) x + 2 + cost (w .session .opening) tableAt (toCome (suc (x .entry)))
+  boundRegion x w =
+      boundIn (w .session .opening) x + 2 + cost (w .session .width) (w .session .opening) tableAt (toCome (w .session .width) (suc (x .entry)))
 
   -- ---- all phases: such a run is never in a response
   module _ (en : Ending) where

@@ -11,6 +11,8 @@ use lib.ListN.{length, take, drop}
 use borrow.Author.Tests.{eqb-true, eqb-false}
 use Rattle.base.proofs.Ranges.{by-test}
 use Rattle.bundle.specs.Bundle.{wellFormed}
+use Rattle.field.specs.Field.{fieldSize}
+use Rattle.field.specs.declared.Width.{Width}
 use Rattle.entry.specs.Entry.{entryOf, baseOf, lengthOf}
 use Rattle.packet.specs.Packet.{lengthField, badLength}
 use Rattle.build.specs.Build.{bytesOf}
@@ -80,27 +82,27 @@ shown-empty false = refl
 
 -- ---- one chunk, and the chunks of a region: its bytes, and a memory read each
 
-module _ (u : Opening) (z : Chunk (chunkOf u)) (mem : ℕ → ℕ) where
-  chunk-shown : (at n : ℕ) → shown (chunk u mem at n) ≡ map byte (bytesAt mem at n)
+module _ (v : Width) (u : Opening) (z : Chunk (chunkOf u)) (mem : ℕ → ℕ) where
+  chunk-shown : (at n : ℕ) → shown (chunk v u mem at n) ≡ map byte (bytesAt mem at n)
   unfolding shown
   chunk-shown at n =
       let t : Bool = emptyAfter u n in
       shown-append (map byte (bytesAt mem at n)) (emptyIf t)
       ∙ rw (shown-bytes (bytesAt mem at n), shown-empty t) (append-nil (map byte (bytesAt mem at n)))
 
-  chunk-reads : (at n : ℕ) → readsIn (chunk u mem at n) ≡ 1
+  chunk-reads : (at n : ℕ) → readsIn (chunk v u mem at n) ≡ 1
   unfolding readsIn
   chunk-reads at n =
       let t : Bool = emptyAfter u n in
       rw (
-        asks-read (Q.MemRead64 at n),
+        asks-read (Q.MemRead v at n),
         reads-append (map byte (bytesAt mem at n)) (emptyIf t),
         reads-bytes (bytesAt mem at n),
         reads-empty t,
       )
       refl
 
-  chunks-shown : (f at l : ℕ) → l ≤ f → shown (chunks u mem f at l) ≡ map byte (bytesAt mem at l)
+  chunks-shown : (f at l : ℕ) → l ≤ f → shown (chunks v u mem f at l) ≡ map byte (bytesAt mem at l)
   unfolding shown chunks
   chunks-shown zero at l h = let i : l ≡ 0 = omega arith in rw (i, no-bytes mem at) refl
   chunks-shown (suc f) at l h =
@@ -111,7 +113,7 @@ module _ (u : Opening) (z : Chunk (chunkOf u)) (mem : ℕ → ℕ) where
       let i : l ≡ 0 → ⊥ = eqb-false _ _ e in
       rw (
         e,
-        shown-append (chunk u mem at n),
+        shown-append (chunk v u mem at n),
         chunk-shown at n,
         chunks-shown f (at + n) (l - n) (omega arith),
         bytesAt-split mem at l n (omega arith),
@@ -119,7 +121,7 @@ module _ (u : Opening) (z : Chunk (chunkOf u)) (mem : ℕ → ℕ) where
       )
       refl)
 
-  chunks-reads : (f at l : ℕ) → l ≤ f → readsIn (chunks u mem f at l) ≡ chunkCount u l
+  chunks-reads : (f at l : ℕ) → l ≤ f → readsIn (chunks v u mem f at l) ≡ chunkCount u l
   unfolding readsIn chunks
   chunks-reads zero at l h = let i : l ≡ 0 = omega arith in rw i (sym (count-none u z))
   chunks-reads (suc f) at l h =
@@ -128,36 +130,39 @@ module _ (u : Opening) (z : Chunk (chunkOf u)) (mem : ℕ → ℕ) where
       let n : ℕ = min (chunkOf u) l in
       let y : 0 < chunkOf u = chunk-some u z in
       let i : l ≡ 0 → ⊥ = eqb-false _ _ e in
-      rw (e, reads-append (chunk u mem at n), chunk-reads at n, chunks-reads f (at + n) (l - n) (omega arith))
+      rw (e, reads-append (chunk v u mem at n), chunk-reads at n, chunks-reads f (at + n) (l - n) (omega arith))
       (omega (arith, count-step u z l (omega arith))))
 
 -- ---- the regions
 
-module _ (f : ℕ) (u : Opening) (z : Chunk (chunkOf u)) (mem : ℕ → ℕ) (t : List ℕ) where
-  regions-shown : (is : List ℕ) (r : ℕ) → shown (regions f u mem t is r) ≡ regionsIn f mem t is ++ (finished 3 (r + regionReads f u t is) ∷ [])
+module _ (v : Width) (u : Opening) (z : Chunk (chunkOf u)) (mem : ℕ → ℕ) (t : List ℕ) where
+  abbrev f : ℕ
+  f = fieldSize v
+
+  regions-shown : (is : List ℕ) (r : ℕ) → shown (regions v u mem t is r) ≡ regionsIn f mem t is ++ (finished 3 (r + regionReads f u t is) ∷ [])
   unfolding shown regions regionsIn regionReads
   regions-shown [] r = rw add-zero refl
   regions-shown (i ∷ is) r =
       let e : List ℕ = entryOf f t i in
       let l : ℕ = lengthOf f e in
       rw (
-        shown-append (chunks u mem l (baseOf f e) l),
-        chunks-shown u z mem l (baseOf f e) l (omega arith),
+        shown-append (chunks v u mem l (baseOf f e) l),
+        chunks-shown v u z mem l (baseOf f e) l (omega arith),
         regions-shown is (r + chunkCount u l),
         append-assoc,
         add-assoc,
       )
       refl
 
-  regions-reads : (is : List ℕ) (r : ℕ) → readsIn (regions f u mem t is r) ≡ regionReads f u t is
+  regions-reads : (is : List ℕ) (r : ℕ) → readsIn (regions v u mem t is r) ≡ regionReads f u t is
   unfolding readsIn regions regionReads
   regions-reads [] r = refl
   regions-reads (i ∷ is) r =
       let e : List ℕ = entryOf f t i in
       let l : ℕ = lengthOf f e in
       rw (
-        reads-append (chunks u mem l (baseOf f e) l),
-        chunks-reads u z mem l (baseOf f e) l (omega arith),
+        reads-append (chunks v u mem l (baseOf f e) l),
+        chunks-reads v u z mem l (baseOf f e) l (omega arith),
         regions-reads is (r + chunkCount u l),
       )
       (omega arith)
@@ -190,7 +195,7 @@ module _ (u : Opening) (set : List ℕ) (tsize rsize : ℕ) where
         by ih e m i W.Pass z = rw (e, m, i, z) (ih (rw (e, m, i, z) at h))
         by ih e m i (W.Finish how) z = never dbg r (rw (e, m, i, z) at h)
         by ih e m i (W.Respond c k) z = no-response dbg r (rw (e, m, i, z) at h)
-        by ih e m i (W.Debug x k) z = rw (e, m, i, z) none
+        by ih e m i (W.Debug v x k) z = rw (e, m, i, z) none
         by ih e m i (W.Refused why) z = never dbg r (rw (e, m, i, z) at h)
 
   module _ (f : ℕ) (s : List ℕ) (dbg : Debug) (r : List ℕ) (h : hear u set tsize rsize f s .ending ≡ Debugged dbg r) where
@@ -212,17 +217,17 @@ heard-meant c dbg tsize rsize f s r h =
     let u : Opening = c .opening in
     let z : Chunk (chunkOf u) = chunk-good u in
     let t : List ℕ = tableIn (c .mem) dbg in
-    let is : List ℕ = selectedIn 8 (c .mem) (c .names) dbg in
+    let is : List ℕ = selectedIn (c .mem) (c .names) dbg in
     let said : List Report = hear u (c .set) tsize rsize f s .said in
     record {
-      shows = rw (h, shown-append said, heard-shown u (c .set) tsize rsize f s dbg r h) (regions-shown 8 u z (c .mem) t is 1);
+      shows = rw (h, shown-append said, heard-shown u (c .set) tsize rsize f s dbg r h) (regions-shown (dbg .width) u z (c .mem) t is 1);
       reads =
           rw (
             h,
             reads-append said,
             heard-reads u (c .set) tsize rsize f s dbg r h,
-            asks-read (Q.MemRead64 (dbg .address) (dbg .size)),
-            regions-reads 8 u z (c .mem) t is 1,
+            asks-read (Q.MemRead (dbg .width) (dbg .address) (dbg .size)),
+            regions-reads (dbg .width) u z (c .mem) t is 1,
           )
           (omega arith);
     }

@@ -14,6 +14,8 @@ use lib.Seq.{take-length, take-take, take-append-le, take-append-add, drop-appen
 use borrow.Author.Tests.{ltb-true, ltb-false, eqb-true, le-ltb, lt-ltb, lt-leb, leb-true, leb-false}
 use Rattle.base.proofs.Ranges.{by-test}
 use Rattle.field.proofs.Laws.{le-within}
+use Rattle.field.specs.Field.{fieldSize}
+use Rattle.field.specs.declared.Width.{Width}
 use Rattle.packet.specs.Packet.{lengthField, badLength}
 use Rattle.build.specs.Build.{bytesOf, sizeOf, front}
 use Rattle.build.specs.declared.Request.{Request}
@@ -26,7 +28,7 @@ use Rattle.verdict.specs.declared.Verdict.the-variants as W
 use Rattle.session.specs.declared.Phase.the-variants as P
 use Rattle.session.specs.declared.Answer.{Answer}
 use Rattle.session.specs.declared.Answer.the-variants as A
-use Rattle.session.specs.Outcome.{Outcome, outcome, gives, holding, reading, filling, ended}
+use Rattle.session.specs.Outcome.{Outcome, outcome, gives, holding, ofWidth, reading, filling, ended}
 use Rattle.session.specs.PacketPhase.{keep, wholeOf, sizedOf, packetOf}
 use Rattle.session.proofs.Window.{keep-length, keep-same}
 use Rattle.session.specs.Limits.{readsLimit, phaseLimit}
@@ -37,6 +39,7 @@ use Rattle.fetch.specs.Plain.{
   finished,
   Debug,
   debug,
+  fieldIn,
   Ending,
   Heard,
   Stopped,
@@ -79,16 +82,18 @@ module _ (u : Opening) (mem : ℕ → ℕ) (names : List ℕ) where
 
   reports-debug : (dbg : Debug) (t : List ℕ)
       → reportsOf u mem names (stop (Debugged dbg t))
-      ≡ sent (bytesOf (Q.MemRead64 (dbg .address) (dbg .size))) ∷ regions 8 u mem (tableIn mem dbg) (selectedIn 8 mem names dbg) 1
+      ≡ sent (bytesOf (Q.MemRead (dbg .width) (dbg .address) (dbg .size)))
+      ∷ regions (dbg .width) u mem (tableIn mem dbg) (selectedIn mem names dbg) 1
   unfolding reportsOf dump
   reports-debug dbg t = refl
 
 -- how the opening ends fits the memory debug: it is no ExecuteResp, and where it is a memory debug it is this one, with no byte after it, and the table ends at
--- or below 2^64
+-- or below 2^64 or, of 32 bits, 2^32
 pub record Fits (dbg : Debug) (en : Ending) : Type 0 where
   pub silent : Responded ≡ en → ⊥
-  pub asked : (b m : ℕ) (r : List ℕ) → Debugged (debug b m) r ≡ en → (b ≡ dbg .address) × (m ≡ dbg .size) × (r ≡ [])
-  pub top : dbg .address + dbg .size ≤ 2 ^ 64
+  pub asked : (v : Width) (b m : ℕ) (r : List ℕ) → Debugged (debug v b m) r ≡ en
+      → (v ≡ dbg .width) × (b ≡ dbg .address) × (m ≡ dbg .size) × (r ≡ [])
+  pub top : dbg .address + dbg .size ≤ 256 ^ fieldIn dbg
 
 module _ (c : Setting) (dbg : Debug) (en : Ending) (h : ℕ) (w : Ghost) (g : GoodPacket c dbg en h w) where
   abbrev u : Opening
@@ -106,7 +111,7 @@ module _ (c : Setting) (dbg : Debug) (en : Ending) (h : ℕ) (w : Ghost) (g : Go
 
   -- the memory read that the memory debug is answered with
   abbrev read : Request
-  read = Q.MemRead64 (dbg .address) (dbg .size)
+  read = Q.MemRead (dbg .width) (dbg .address) (dbg .size)
 
   s-length : length s ≡ h + length (w .queue)
   s-length = length-append (w .back) (w .queue) ∙ ap (λ (i : ℕ). i + length (w .queue)) (g .count)
@@ -142,7 +147,7 @@ module _ (c : Setting) (dbg : Debug) (en : Ending) (h : ℕ) (w : Ghost) (g : Go
       sym (take-take 8 h (w .session .window) l) ∙ ap (take 8) (g .same) ∙ take-take 8 48 (w .back) (omega arith) in
       le-same 4 4 8 (w .session .window) (w .back) (omega arith) f ∙ header-back l
 
-  pub limits : readsLimit (w .session) || phaseLimit 8 (w .session .window) (P.Packet h) (w .table) (w .reply) ≡ false
+  pub limits : readsLimit (w .session) || phaseLimit (fieldSize (w .session .width)) (w .session .window) (P.Packet h) (w .table) (w .reply) ≡ false
   limits =
       by-test (leb 8 h)
       (λ m.
@@ -313,20 +318,21 @@ module _ (c : Setting) (dbg : Debug) (en : Ending) (h : ℕ) (w : Ghost) (g : Go
 
         module _ (fit : Fits dbg en) where
           -- it is the memory debug that the plain host comes to
-          debugged : (b m : ℕ) → verdict ≡ W.Debug b m → Debugged (debug b m) rest ≡ en
-          debugged b m e =
-              let f : heard ≡ stop (Debugged (debug b m) rest) = first .cut ∙ rw e refl in
+          debugged : (x : Width) (b m : ℕ) → verdict ≡ W.Debug x b m → Debugged (debug x b m) rest ≡ en
+          debugged x b m e =
+              let f : heard ≡ stop (Debugged (debug x b m) rest) = first .cut ∙ rw e refl in
               ap (λ (o : Heard). o .ending) (sym f) ∙ g .ends
 
-          ask : verdict ≡ W.Debug (dbg .address) (dbg .size)
+          ask : verdict ≡ W.Debug (dbg .width) (dbg .address) (dbg .size)
               → Keeps
-              (outcome (gives (reading (holding (w .session) win (w .session .phase)) 1 (P.Table (filling (dbg .size) 0))) k (A.Send (sizeOf read)))
+              (outcome
+              (gives (reading (ofWidth (holding (w .session) win (w .session .phase)) (dbg .width)) 1 (P.Table (filling (dbg .size) 0))) k
+              (A.Send (sizeOf read)))
               (w .table) (w .reply) (front read (w .out)))
           ask e =
               let f : heard ≡ stop (Debugged dbg rest) = first .cut ∙ rw e refl in
-              let q = debugged (dbg .address) (dbg .size) e in
-              let b : behind c dbg u en ≡ dbg .size + 2 + cost u (tableAt c dbg) (toCome c dbg 0) = rw (← q) refl in
-              let top = fit .top in
+              let q = debugged (dbg .width) (dbg .address) (dbg .size) e in
+              let b : behind c dbg u en ≡ dbg .size + 2 + cost (dbg .width) u (tableAt c dbg) (toCome c dbg (dbg .width) 0) = rw (← q) refl in
               let y : dbg .size ≤ room (length (w .table)) = rw e at (sane u (c .set) (length (w .table)) (length (w .reply)) (take size s)) in
               let st : take (sizeOf read) (front read (w .out)) ≡ bytesOf read = take-sent read (w .out) in
               record {
@@ -338,8 +344,9 @@ module _ (c : Setting) (dbg : Debug) (en : Ending) (h : ℕ) (w : Ghost) (g : Go
                       filled = omega arith;
                       table = refl;
                       queue =
-                          rw (queue-rest, fit .asked (dbg .address) (dbg .size) rest q .2, st)
-                          (served-read (c .mem) (dbg .address) (dbg .size) (omega arith) (omega arith));
+                          rw (queue-rest, fit .asked (dbg .width) (dbg .address) (dbg .size) rest q .3, st)
+                          (served-read (c .mem) (dbg .width) (dbg .address) (dbg .size) (fit .top) (omega arith));
+                      width = refl;
                       reads = refl;
                     };
                 told = rw (f, st, sub-zero) (reports-debug u (c .mem) (c .names) dbg rest);
@@ -358,9 +365,9 @@ module _ (c : Setting) (dbg : Debug) (en : Ending) (h : ℕ) (w : Ghost) (g : Go
               go (W.Respond x m) e =
                   let f : heard ≡ say (sent (bytesOf (Q.ExecuteData x))) (stop Responded) = first .cut ∙ rw e refl in
                   absurd (fit .silent (ap (λ (o : Heard). o .ending) (sym f) ∙ g .ends))
-              go (W.Debug b m) e =
-                  let p = fit .asked b m rest (debugged b m e) in
-                  let f : verdict ≡ W.Debug (dbg .address) (dbg .size) = e ∙ rw (p .0, p .1) refl in
+              go (W.Debug x b m) e =
+                  let p = fit .asked x b m rest (debugged x b m e) in
+                  let f : verdict ≡ W.Debug (dbg .width) (dbg .address) (dbg .size) = e ∙ rw (p .0, p .1, p .2) refl in
                   via c dbg en (rw (same-verdict l, f) refl) (ask f)
               go (W.Refused why) e = via c dbg en (rw (same-verdict l, e) refl) (refuse why e)
 

@@ -1,17 +1,21 @@
--- Lists of steps of any host: own steps with deliveries of one size, and lists whose fairness is a computed test. By induction on the list.
--- Assumes nothing.
+-- What can be computed: lists of steps of any host, own steps with deliveries of one size and lists whose fairness is a test, by induction on the list; and the
+-- premises as a test. Assumes nothing.
 use mathlib.Core.Path.{_≡_, refl}
 use mathlib.Core.Logic.{inl, inr}
 use mathlib.Core.Bool.{Bool, true, false}
 use mathlib.Core.List.{List, [], _∷_}
-use Prim.Native.Nat.{ℕ, zero, suc, _≤_}
+use Prim.Native.Nat.{ℕ, zero, suc, _+_, _/_, _^_, _≤_}
 use native.Mathlib.Omega.{arith}
 use lib.Dec.{leb, leb→le, T}
 use Rattle.base.specs.Choice.{pick}
-use Rattle.base.proofs.Ranges.{both-left, both-right}
-use Rattle.fetch.specs.Plain.{Setting}
+use Rattle.base.proofs.Ranges.{both-left, both-right, every, in-range}
+use Rattle.base.proofs.Tests.{holds}
+use Rattle.entry.specs.Entry.{entrySize, entryOf, baseOf, lengthOf, filenameOf}
+use Rattle.filename.specs.Filename.{sound}
+use Rattle.selection.specs.Selection.{selected}
+use Rattle.fetch.specs.Plain.{Debug, fieldIn, Debugged, tableIn, Setting, heardOf}
 use Rattle.fetch.specs.Device.{Host, own, Delivery, first, another, Lent, allOwn, aside, Delivered, World, made, next, Fair}
-use Rattle.fetch.specs.Claim.{Run, owns}
+use Rattle.fetch.specs.Claim.{Run, owns, Dumpable, Premises}
 
 -- all the run's own, with a delivery
 abbrev pub lending : Delivery → Lent
@@ -65,3 +69,38 @@ module _ (h : Host) (c : Setting) where
   played-fair (l ∷ ls) w e =
       let v : World (h .State) = next h c w l in
       (fair-step w l (both-left (fairly w l) (allFair ls v) e), played-fair ls v (both-right (fairly w l) (allFair ls v) e))
+
+-- ---- the premises as a test
+
+-- an entry's region can be dumped, or the entry is not selected; f is the width of its numbers
+module _ (f : ℕ) (names : List ℕ) where
+  abbrev dumps : List ℕ → Bool
+  dumps e = pick (leb (baseOf f e + lengthOf f e) (256 ^ f)) (sound (filenameOf f e)) false
+
+  abbrev pub fits : List ℕ → Bool
+  fits e = pick (selected f names e) (dumps e) true
+
+  fits-dumpable : (e : List ℕ) → T (fits e) → selected f names e ≡ true → Dumpable f e
+  fits-dumpable e h s =
+      let t : T (dumps e) = rw s at h in
+      record {
+        top = leb→le _ _ (both-left (leb (baseOf f e + lengthOf f e) (256 ^ f)) (sound (filenameOf f e)) t);
+        named = holds (sound (filenameOf f e)) (both-right (leb (baseOf f e + lengthOf f e) (256 ^ f)) (sound (filenameOf f e)) t);
+      }
+
+module _ (c : Setting) (dbg : Debug) where
+  abbrev fitsAt : ℕ → Bool
+  fitsAt i = fits (fieldIn dbg) (c .names) (entryOf (fieldIn dbg) (tableIn (c .mem) dbg) i)
+
+  pub tested : heardOf c .ending ≡ Debugged dbg [] → dbg .address + dbg .size ≤ 256 ^ fieldIn dbg
+      → T (every fitsAt 0 (dbg .size / entrySize (fieldIn dbg)))
+      → Premises c dbg
+  tested o t e =
+      record {
+        opens = o;
+        top = t;
+        regions =
+            λ i h s.
+            fits-dumpable (fieldIn dbg) (c .names) (entryOf (fieldIn dbg) (tableIn (c .mem) dbg) i)
+            (in-range fitsAt 0 (dbg .size / entrySize (fieldIn dbg)) i e (omega arith) (omega arith)) s;
+      }

@@ -1,25 +1,24 @@
 -- Demand 3 is false of the wrong hosts of specs/Wrong: by computation, each runs a fair list on a device that meets the premises, and its report is no
--- beginning of the plain host's, or not the whole of it after enough steps. And the count of steps is tight: one own step fewer is not enough.
--- Assumes nothing.
+-- beginning of the plain host's, or not the whole of it after enough steps. And the count of steps is tight: one own step fewer is not enough. Each on a device of
+-- either width v. Assumes nothing.
 use mathlib.Core.Path.{_≡_, refl, sym, ap, _∙_}
-use mathlib.Core.Bool.{Bool, false}
 use mathlib.Core.List.{List, [], _∷_, _++_}
-use Prim.Native.Nat.{ℕ, zero, suc, _+_, _-_, _/_, _%_, _^_, _≤_, _<_}
+use Prim.Native.Nat.{ℕ, zero, suc, _-_, _*_, _%_, _<_}
 use native.Mathlib.Omega.{arith}
-use lib.Dec.{ltb, leb, leb→le, lit≤, T}
+use lib.Dec.{ltb, lit≤, T}
 use lib.ListN.{length, getD, replicate}
 use Rattle.base.specs.Choice.{pick}
-use Rattle.base.proofs.Ranges.{both-left, both-right, every, in-range}
-use Rattle.field.specs.Field.{le, leBytes}
+use Rattle.field.specs.Field.{le, leBytes, fieldSize}
+use Rattle.field.specs.declared.Width.{Width}
+use Rattle.field.specs.declared.Width.the-variants as WI
 use Rattle.utf8.specs.Utf8.{table, leads, afterFirst, goesOn}
 use Rattle.bundle.specs.Bundle.{slotsGood, wellFormed}
-use Rattle.entry.specs.Entry.{entrySize, entryOf, baseOf, lengthOf, filenameOf}
+use Rattle.entry.specs.Entry.{entrySize}
 use Rattle.filename.specs.Filename.{before, has, openCheck, afterOpenCheck, sound}
 use Rattle.selection.specs.Selection.{same, selected, nextOf}
 use Rattle.command.specs.Command.{kinds, classOf}
 use Rattle.packet.specs.Packet.{kindOf, decodeOf}
-use Rattle.build.specs.Build.{fields, words, longs, bytesOf}
-use Rattle.build.specs.declared.Request.the-variants as Q
+use Rattle.build.specs.Build.{fields, bytesOf}
 use Rattle.verdict.specs.Opening.{chunkOf}
 use Rattle.verdict.specs.Verdict.{verdictOf}
 use Rattle.verdict.specs.declared.QdlBackend.{QdlBackend}
@@ -43,30 +42,26 @@ use Rattle.fetch.specs.Plain.{
   bytesAt,
   Debug,
   debug,
-  Debugged,
   hear,
   hosted,
   chosen,
   chunks,
   regions,
-  tableIn,
   dump,
   reportsOf,
   Setting,
-  heardOf,
   plain,
 }
 use Rattle.fetch.specs.Device.{Host, definitions, first, Lent, served, World, start, next}
-use Rattle.fetch.specs.Claim.{reports, regionBytes, regionReads, enough, Dumpable, Premises, dumps, Demand}
+use Rattle.fetch.specs.Claim.{reports, regionBytes, regionReads, enough, Premises, dumps, Demand}
 use Rattle.fetch.specs.Wrong.{namedBefore, hasty, thrifty, merging, idle}
-use Rattle.fetch.proofs.Played.{lending, drive, drive-fair, drive-owns, allFair, played-fair}
-use Rattle.base.proofs.Tests.{holds}
-use Rattle.fetch.proofs.Example.{on, entryBytes}
+use Rattle.fetch.proofs.Played.{lending, drive, drive-fair, drive-owns, allFair, played-fair, tested}
+use Rattle.fetch.proofs.Example.{debugBytes, readBytes, on, entryBytes}
 
 -- ---- small devices: a table at 0 and computed bytes behind it, nothing but a memory debug before it, no images and no names
 
-abbrev pub small : QdlBackend → List ℕ → Setting
-small b t =
+abbrev pub small : Width → QdlBackend → List ℕ → Setting
+small v b t =
     record {
       opening = on b;
       set = replicate 8 0;
@@ -74,38 +69,17 @@ small b t =
       table = replicate (length t) 0;
       reply = [];
       out = replicate 48 0;
-      bytes = words (16 ∷ 24 ∷ []) ++ longs (0 ∷ length t ∷ []);
+      bytes = debugBytes v 0 (length t);
       mem = λ a. pick (ltb a (length t)) (getD t a 0) (a % 251);
     }
+
+-- the memory debug of a table of n entries
+abbrev pub entriesAt : Width → ℕ → Debug
+entriesAt v n = debug v 0 (entrySize (fieldSize v) * n)
 
 -- the name "A"
 abbrev name : List ℕ
 name = 0x41 ∷ []
-
--- ---- the premises as a test
-
--- an entry's region can be dumped
-abbrev fits : List ℕ → Bool
-fits e = pick (leb (baseOf 8 e + lengthOf 8 e) (256 ^ 8)) (sound (filenameOf 8 e)) false
-
-fits-dumpable : (e : List ℕ) → T (fits e) → Dumpable 8 e
-fits-dumpable e h =
-    record {
-      top = leb→le _ _ (both-left (leb (baseOf 8 e + lengthOf 8 e) (256 ^ 8)) (sound (filenameOf 8 e)) h);
-      named = holds (sound (filenameOf 8 e)) (both-right (leb (baseOf 8 e + lengthOf 8 e) (256 ^ 8)) (sound (filenameOf 8 e)) h);
-    }
-
-tested : (c : Setting) (dbg : Debug) → heardOf c .ending ≡ Debugged dbg [] → dbg .address + dbg .size ≤ 2 ^ 64
-    → T (every (λ i. fits (entryOf 8 (tableIn (c .mem) dbg) i)) 0 (dbg .size / entrySize 8)) → Premises c dbg
-tested c dbg o t e =
-    record {
-      opens = o;
-      top = t;
-      regions =
-          λ i h s.
-          fits-dumpable (entryOf 8 (tableIn (c .mem) dbg) i)
-          (in-range (λ j. fits (entryOf 8 (tableIn (c .mem) dbg) j)) 0 (dbg .size / entrySize 8) i e (omega arith) (omega arith));
-    }
 
 -- ---- what differs: the kind of the report at a place of a list
 
@@ -146,98 +120,125 @@ refuted h c dbg ls n i j a x d =
 -- ---- requests again after a short delivery: a region of 2 bytes, of which the first delivery has 1. The plain host goes on with the second byte (3), this
 -- host sends a packet (0)
 
-abbrev pub two : Setting
-two = small U.Serial (entryBytes 1 1000 2 name)
+abbrev pub two : Width → Setting
+two v = small v U.Serial (entryBytes v 1 1000 2 name)
 
 abbrev byOne : List Lent
 byOne = lending (first 24) ∷ lending (first 64) ∷ lending (first 1) ∷ lending (first 1) ∷ lending (first 1) ∷ lending (first 1) ∷ []
 
-hasty-apart : Apart hasty two (debug 0 64) byOne 4 3 0
+hasty-apart : (v : Width) → Apart hasty (two v) (entriesAt v 1) byOne 4 3 0
 unfolding kindAt allFair plain hosted hear reportsOf dump regions chunks chosen stepOf limitOf packetOf sizedOf wholeOf tableOf betweenOf nextChunk
     askOf handOf regionOf chunkOf openCheck afterOpenCheck nextOf served wellFormed slotsGood verdictOf decodeOf classOf kinds kindOf bytesOf
     selected before sound has goesOn leads afterFirst table bytesAt fields le leBytes
-hasty-apart =
-    record { premises = tested two (debug 0 64) refl (lit≤ tt) tt; fair = tt; far = lit≤ tt; planned = refl; played = refl }
+hasty-apart WI.Bits32 =
+    record { premises = tested (two WI.Bits32) (entriesAt WI.Bits32 1) refl (lit≤ tt) tt; fair = tt; far = lit≤ tt; planned = refl; played = refl }
+hasty-apart WI.Bits64 =
+    record { premises = tested (two WI.Bits64) (entriesAt WI.Bits64 1) refl (lit≤ tt) tt; fair = tt; far = lit≤ tt; planned = refl; played = refl }
 
-pub two-premises : Premises two (debug 0 64)
-two-premises = hasty-apart .premises
+pub two-premises : (v : Width) → Premises (two v) (entriesAt v 1)
+two-premises v = hasty-apart v .premises
 
-pub hasty-refuted : Demand hasty → ⊥
-hasty-refuted = refuted hasty two (debug 0 64) byOne 4 3 0 hasty-apart (λ e. omega (arith, e))
+pub hasty-refuted : Width → Demand hasty → ⊥
+hasty-refuted v = refuted hasty (two v) (entriesAt v 1) byOne 4 3 0 (hasty-apart v) (λ e. omega (arith, e))
 
 -- ---- merges two regions of one filename, both empty. The plain host opens the second (2), this host closes it (5)
 
-abbrev twins : Setting
-twins = small U.Serial (entryBytes 1 1000 0 name ++ entryBytes 1 2000 0 name)
+abbrev twins : Width → Setting
+twins v = small v U.Serial (entryBytes v 1 1000 0 name ++ entryBytes v 1 2000 0 name)
 
 abbrev through : List Lent
 through = lending (first 24) ∷ lending (first 128) ∷ lending (first 1) ∷ lending (first 1) ∷ lending (first 1) ∷ lending (first 1) ∷ []
 
-merging-apart : Apart merging twins (debug 0 128) through 3 2 5
+merging-apart : (v : Width) → Apart merging (twins v) (entriesAt v 2) through 3 2 5
 unfolding kindAt allFair plain hosted hear reportsOf dump regions chunks chosen stepOf limitOf packetOf sizedOf wholeOf tableOf betweenOf nextChunk
     askOf handOf regionOf chunkOf openCheck afterOpenCheck nextOf served wellFormed slotsGood verdictOf decodeOf classOf kinds kindOf bytesOf
     selected before same namedBefore sound has goesOn leads afterFirst table bytesAt fields le leBytes
-merging-apart =
-    record { premises = tested twins (debug 0 128) refl (lit≤ tt) tt; fair = tt; far = lit≤ tt; planned = refl; played = refl }
+merging-apart WI.Bits32 =
+    record { premises = tested (twins WI.Bits32) (entriesAt WI.Bits32 2) refl (lit≤ tt) tt; fair = tt; far = lit≤ tt; planned = refl; played = refl }
+merging-apart WI.Bits64 =
+    record { premises = tested (twins WI.Bits64) (entriesAt WI.Bits64 2) refl (lit≤ tt) tt; fair = tt; far = lit≤ tt; planned = refl; played = refl }
 
-pub merging-refuted : Demand merging → ⊥
-merging-refuted = refuted merging twins (debug 0 128) through 3 2 5 merging-apart (λ e. omega (arith, e))
+pub merging-refuted : Width → Demand merging → ⊥
+merging-refuted v = refuted merging (twins v) (entriesAt v 2) through 3 2 5 (merging-apart v) (λ e. omega (arith, e))
 
 -- ---- skips the last empty read: a region of 512 bytes on USB. Behind its bytes the plain host makes an empty read (4), this host closes it (5)
 
-abbrev block : Setting
-block = small U.Usb (entryBytes 1 1000 512 name)
+abbrev block : Width → Setting
+block v = small v U.Usb (entryBytes v 1 1000 512 name)
 
 abbrev whole : List Lent
 whole = lending (first 24) ∷ lending (first 64) ∷ lending (first 1) ∷ lending (first 1) ∷ lending (first 512) ∷ lending (first 1) ∷ []
 
-thrifty-apart : Apart thrifty block (debug 0 64) whole 515 4 5
+thrifty-apart : (v : Width) → Apart thrifty (block v) (entriesAt v 1) whole 515 4 5
 unfolding kindAt allFair plain hosted hear reportsOf dump regions chunks chosen stepOf limitOf packetOf sizedOf wholeOf tableOf betweenOf nextChunk
     askOf handOf regionOf chunkOf openCheck afterOpenCheck nextOf served wellFormed slotsGood verdictOf decodeOf classOf kinds kindOf bytesOf
     selected before sound has goesOn leads afterFirst table bytesAt fields le leBytes
-thrifty-apart =
-    record { premises = tested block (debug 0 64) refl (lit≤ tt) tt; fair = tt; far = lit≤ tt; planned = refl; played = refl }
+thrifty-apart WI.Bits32 =
+    record { premises = tested (block WI.Bits32) (entriesAt WI.Bits32 1) refl (lit≤ tt) tt; fair = tt; far = lit≤ tt; planned = refl; played = refl }
+thrifty-apart WI.Bits64 =
+    record { premises = tested (block WI.Bits64) (entriesAt WI.Bits64 1) refl (lit≤ tt) tt; fair = tt; far = lit≤ tt; planned = refl; played = refl }
 
-pub thrifty-refuted : Demand thrifty → ⊥
-thrifty-refuted = refuted thrifty block (debug 0 64) whole 515 4 5 thrifty-apart (λ e. omega (arith, e))
+pub thrifty-refuted : Width → Demand thrifty → ⊥
+thrifty-refuted v = refuted thrifty (block v) (entriesAt v 1) whole 515 4 5 (thrifty-apart v) (λ e. omega (arith, e))
 
--- ---- an empty table, one byte a delivery: 24 steps for the memory debug, one for the table without a byte, one for the end. (`drive 1 k` of Played: k own
+-- ---- an empty table, one byte a delivery: 16 or 24 steps for the memory debug, one for the table without a byte, one for the end. (`drive 1 k` of Played: k own
 -- steps, each lent one byte of the queue at most)
 
-abbrev pub emptyTable : Setting
-emptyTable = small U.Serial []
+abbrev pub emptyTable : Width → Setting
+emptyTable v = small v U.Serial []
 
-pub record Tight (k : ℕ) : Type 0 where
-  pub premises : Premises emptyTable (debug 0 0)
-  pub enough : enough emptyTable (debug 0 0) ≡ k
+abbrev pub least : Width → ℕ
+least WI.Bits32 = 18
+least WI.Bits64 = 26
+
+pub record Tight (v : Width) (k : ℕ) : Type 0 where
+  pub premises : Premises (emptyTable v) (entriesAt v 0)
+  pub enough : enough (emptyTable v) (entriesAt v 0) ≡ k
   -- the plain host sends the memory read and finishes
-  pub planned : plain emptyTable ≡ sent (bytesOf (Q.MemRead64 0 0)) ∷ finished 3 1 ∷ []
+  pub planned : plain (emptyTable v) ≡ sent (readBytes v 0 0) ∷ finished 3 1 ∷ []
   -- the host of the definitions: the whole after so many steps, and not before
-  pub before : reports definitions emptyTable (start definitions emptyTable) (drive 1 (k - 1)) ≡ sent (bytesOf (Q.MemRead64 0 0)) ∷ []
-  pub all : reports definitions emptyTable (start definitions emptyTable) (drive 1 k) ≡ plain emptyTable
+  pub before : reports definitions (emptyTable v) (start definitions (emptyTable v)) (drive 1 (k - 1)) ≡ sent (readBytes v 0 0) ∷ []
+  pub all : reports definitions (emptyTable v) (start definitions (emptyTable v)) (drive 1 k) ≡ plain (emptyTable v)
 
 -- the count of 01 cannot be less
-pub tight : Tight 26
+pub tight : (v : Width) → Tight v (least v)
 unfolding enough regionBytes regionReads drive plain hosted hear reportsOf dump regions chosen stepOf limitOf packetOf sizedOf wholeOf tableOf betweenOf
     chunkOf nextOf served wellFormed slotsGood verdictOf decodeOf classOf kinds kindOf bytesOf bytesAt fields le leBytes
-tight = record { premises = tested emptyTable (debug 0 0) refl (lit≤ tt) tt; enough = refl; planned = refl; before = refl; all = refl }
+tight WI.Bits32 =
+    record {
+      premises = tested (emptyTable WI.Bits32) (entriesAt WI.Bits32 0) refl (lit≤ tt) tt;
+      enough = refl;
+      planned = refl;
+      before = refl;
+      all = refl;
+    }
+tight WI.Bits64 =
+    record {
+      premises = tested (emptyTable WI.Bits64) (entriesAt WI.Bits64 0) refl (lit≤ tt) tt;
+      enough = refl;
+      planned = refl;
+      before = refl;
+      all = refl;
+    }
 
-pub one-fewer : reports definitions emptyTable (start definitions emptyTable) (drive 1 25) ≡ plain emptyTable → ⊥
-one-fewer e =
-    let z : _≡_ {A = ℕ} 1 2 = ap length (sym (tight .before) ∙ e ∙ tight .planned) in
+pub one-fewer : (v : Width) → reports definitions (emptyTable v) (start definitions (emptyTable v)) (drive 1 (least v - 1)) ≡ plain (emptyTable v) → ⊥
+one-fewer v e =
+    let z : _≡_ {A = ℕ} 1 2 = ap length (sym (tight v .before) ∙ e ∙ tight v .planned) in
     omega arith
 
 -- ---- only says go: its report is empty after any list, and the plain host's is not
 
-idle-silent : (ls : List Lent) (w : World Session) → reports idle emptyTable w ls ≡ []
-idle-silent [] w = refl
-idle-silent (l ∷ ls) w = idle-silent ls (next idle emptyTable w l)
+idle-silent : (v : Width) (ls : List Lent) (w : World Session) → reports idle (emptyTable v) w ls ≡ []
+idle-silent v [] w = refl
+idle-silent v (l ∷ ls) w = idle-silent v ls (next idle (emptyTable v) w l)
 
-pub idle-refuted : Demand idle → ⊥
-idle-refuted d =
-    let w : World Session = start idle emptyTable in
+pub idle-refuted : Width → Demand idle → ⊥
+idle-refuted v d =
+    let c : Setting = emptyTable v in
+    let w : World Session = start idle c in
+    let k : ℕ = least v in
     let e =
-    d emptyTable (dumps (debug 0 0) (tight .premises)) (drive 1 26) (drive-fair idle emptyTable 1 26 w (lit≤ tt)) .whole
-    (omega (arith, tight .enough, drive-owns idle emptyTable 1 26 w)) in
-    let z : _≡_ {A = ℕ} 0 2 = ap length (sym (idle-silent (drive 1 26) w) ∙ e ∙ tight .planned) in
+    d c (dumps (entriesAt v 0) (tight v .premises)) (drive 1 k) (drive-fair idle c 1 k w (lit≤ tt)) .whole
+    (omega (arith, tight v .enough, drive-owns idle c 1 k w)) in
+    let z : _≡_ {A = ℕ} 0 2 = ap length (sym (idle-silent v (drive 1 k) w) ∙ e ∙ tight v .planned) in
     omega arith

@@ -3,13 +3,15 @@
 use mathlib.Core.Path.{_≡_, refl, sym, ap, _∙_}
 use mathlib.Core.Bool.{true, false, not, _&&_, _||_}
 use mathlib.Core.List.{List, [], _∷_, _++_, map, append-assoc, append-nil, map-append}
-use Prim.Native.Nat.{ℕ, zero, suc, _+_, _-_, _/_, _%_, _^_, _≤_, _<_, min}
+use Prim.Native.Nat.{ℕ, zero, suc, _+_, _-_, _*_, _/_, _%_, _^_, _≤_, _<_, min}
 use native.Mathlib.Omega.{arith}
 use native.Mathlib.Nat.{add-zero, add-assoc}
 use lib.Dec.{eqb, ltb, leb}
 use lib.ListN.{length, take}
 use borrow.Author.Tests.{leb-true, leb-false, eqb-true, eqb-false, eq-eqb, ne-eqb, le-ltb, lt-leb}
 use Rattle.base.proofs.Ranges.{by-test}
+use Rattle.field.specs.Field.{fieldSize}
+use Rattle.field.specs.declared.Width.{Width}
 use Rattle.entry.specs.Entry.{entrySize}
 use Rattle.build.specs.Build.{bytesOf, sizeOf, front}
 use Rattle.build.specs.declared.Request.{Request}
@@ -24,7 +26,7 @@ use Rattle.session.specs.RegionPhase.{emptied, dueAfter, nextChunk, askOf, hand
 use Rattle.session.specs.Limits.{readsLimit, phaseLimit}
 use Rattle.steps.specs.Steps.{one}
 use Rattle.fetch.specs.Plain.{Report, byte, sent, emptyRead, bytesAt, Debug, Ending, chunk, chunks, chunkCount, Setting}
-use Rattle.fetch.proofs.Chunk.{Chunk, chunk-good, chunk-some, count-none, count-step}
+use Rattle.fetch.proofs.Chunk.{Chunk, mostReads, reads-within, chunk-good, chunk-some, count-none, count-step}
 use Rattle.fetch.proofs.Ghost.{Ghost}
 use Rattle.base.proofs.Tests.{and-true, and-false}
 use Rattle.fetch.proofs.Basics.{one-le}
@@ -48,9 +50,9 @@ use Rattle.fetch.proofs.Invariant.{
 
 -- ---- the plain host's chunks
 
-module _ (u : Opening) (z : Chunk (chunkOf u)) (mem : ℕ → ℕ) where
+module _ (v : Width) (u : Opening) (z : Chunk (chunkOf u)) (mem : ℕ → ℕ) where
   -- enough fuel is enough
-  fuel : (f g at l : ℕ) → l ≤ f → l ≤ g → chunks u mem f at l ≡ chunks u mem g at l
+  fuel : (f g at l : ℕ) → l ≤ f → l ≤ g → chunks v u mem f at l ≡ chunks v u mem g at l
   unfolding chunks
   fuel zero zero at l h k = refl
   fuel zero (suc g) at l h k = rw (eq-eqb l 0 (omega arith)) refl
@@ -65,8 +67,8 @@ module _ (u : Opening) (z : Chunk (chunkOf u)) (mem : ℕ → ℕ) where
 
   -- one chunk off the front
   chunks-step : (at l : ℕ) → 0 < l
-      → chunks u mem l at l
-      ≡ chunk u mem at (min (chunkOf u) l) ++ chunks u mem (l - min (chunkOf u) l) (at + min (chunkOf u) l) (l - min (chunkOf u) l)
+      → chunks v u mem l at l
+      ≡ chunk v u mem at (min (chunkOf u) l) ++ chunks v u mem (l - min (chunkOf u) l) (at + min (chunkOf u) l) (l - min (chunkOf u) l)
   unfolding chunks
   chunks-step at zero h = absurd (omega arith)
   chunks-step at (suc l) h =
@@ -74,9 +76,9 @@ module _ (u : Opening) (z : Chunk (chunkOf u)) (mem : ℕ → ℕ) where
       let y : 0 < chunkOf u = chunk-some u z in
       rw (ne-eqb (suc l) 0 (omega arith), fuel l (suc l - c) (at + c) (suc l - c) (omega arith) (omega arith)) refl
 
-no-chunks : (u : Opening) (mem : ℕ → ℕ) (at : ℕ) → chunks u mem 0 at 0 ≡ []
+no-chunks : (v : Width) (u : Opening) (mem : ℕ → ℕ) (at : ℕ) → chunks v u mem 0 at 0 ≡ []
 unfolding chunks
-no-chunks u mem at = refl
+no-chunks v u mem at = refl
 
 -- ---- an empty read is due at a chunk's end alone, as the plain host has it there
 
@@ -91,20 +93,20 @@ due-only u k e h = eqb-true k 0 (and-true (onUsb u) (eqb k 0) (and-true (onUsb u
 
 -- ---- what is due inside a region, one law for each branch
 
-module _ (u : Opening) (mem : ℕ → ℕ) (i b l e : ℕ) (y : List Report) where
-  due-law : (k : ℕ) → inRegion u mem (region i b l e k true) y ≡ emptyRead ∷ inRegion u mem (region i b l e k false) y
+module _ (v : Width) (u : Opening) (mem : ℕ → ℕ) (i b l e : ℕ) (y : List Report) where
+  due-law : (k : ℕ) → inRegion v u mem (region i b l e k true) y ≡ emptyRead ∷ inRegion v u mem (region i b l e k false) y
   unfolding inRegion
   due-law k = refl
 
-  close-law : l ≤ e → inRegion u mem (region i b l e 0 false) y ≡ y
+  close-law : l ≤ e → inRegion v u mem (region i b l e 0 false) y ≡ y
   unfolding inRegion
   close-law h =
       let z : l - (e + 0) ≡ 0 = omega arith in
       rw (z, no-bytes, no-chunks) refl
 
   ask-law : Chunk (chunkOf u) → e < l → e % 512 ≡ 0
-      → inRegion u mem (region i b l e 0 false) y
-      ≡ sent (bytesOf (Q.MemRead64 (b + e) (min (chunkOf u) (l - e)))) ∷ inRegion u mem (region i b l e (min (chunkOf u) (l - e)) false) y
+      → inRegion v u mem (region i b l e 0 false) y
+      ≡ sent (bytesOf (Q.MemRead v (b + e) (min (chunkOf u) (l - e)))) ∷ inRegion v u mem (region i b l e (min (chunkOf u) (l - e)) false) y
   unfolding inRegion
   ask-law z h m =
       let c : ℕ = min (chunkOf u) (l - e) in
@@ -116,7 +118,7 @@ module _ (u : Opening) (mem : ℕ → ℕ) (i b l e : ℕ) (y : List Report) whe
         o,
         no-bytes,
         add-zero e,
-        chunks-step u z mem (b + e) (l - e) (omega arith),
+        chunks-step v u z mem (b + e) (l - e) (omega arith),
         r,
         s,
         ne-eqb c 0 (omega arith),
@@ -127,8 +129,8 @@ module _ (u : Opening) (mem : ℕ → ℕ) (i b l e : ℕ) (y : List Report) whe
       refl
 
   hand-law : (k j : ℕ) → 0 < k → j ≤ k
-      → inRegion u mem (region i b l e k false) y
-      ≡ map byte (bytesAt mem (b + e) j) ++ inRegion u mem (region i b l (e + j) (k - j) (dueAfter u (k - j) (e + j))) y
+      → inRegion v u mem (region i b l e k false) y
+      ≡ map byte (bytesAt mem (b + e) j) ++ inRegion v u mem (region i b l (e + j) (k - j) (dueAfter u (k - j) (e + j))) y
   unfolding inRegion
   hand-law k j h m =
       let s : e + j + (k - j) ≡ e + k = omega arith in
@@ -153,28 +155,32 @@ below : {i j : ℕ} (c : ℕ) → i < j → i + 2 + c ≤ j + 2 + c - 1
 below c h = omega arith
 
 module _ (c : Setting) (dbg : Debug) (en : Ending) (k : ℕ) (x : Region) (w : Ghost) (g : GoodRegion c dbg k x w) where
-  -- what the session was opened with
+  -- the session's width, and what it was opened with
+  abbrev v : Width
+  v = w .session .width
+
   abbrev u : Opening
   u = w .session .opening
 
   good : Chunk (chunkOf u)
   good = chunk-good u
 
-  pub limits : (readsLimit (w .session) || phaseLimit 8 (w .session .window) (P.Region k x) (w .table) (w .reply)) ≡ false
+  pub limits : (readsLimit (w .session) || phaseLimit (fieldSize v) (w .session .window) (P.Region k x) (w .table) (w .reply)) ≡ false
   limits =
+      let r : w .session .reads ≤ 1 + suc (x .entry) * mostReads v = omega (arith, g .reads) in
       rw (
         g .declared,
-        le-ltb (2 ^ 63 + 1) (w .session .reads) (omega (arith, g .fits, g .entry, g .reads)),
+        le-ltb (2 ^ 63 + 1) (w .session .reads) (reads-within v (w .session .reads) (dbg .size) (suc (x .entry)) r (g .entry) (omega (arith, g .fits))),
         le-ltb (length (w .table)) (dbg .size) (omega (arith, g .fits)),
-        lt-leb ((dbg .size) / entrySize 8) (x .entry) (g .entry),
+        lt-leb ((dbg .size) / entrySize (fieldSize v)) (x .entry) (g .entry),
         le-ltb (x .len) (x .done + x .outstanding) (g .within),
-        le-ltb (256 ^ 8) (x .base + x .len) (g .top),
+        le-ltb (256 ^ fieldSize v) (x .base + x .len) (g .top),
       )
       (and-false (not (eqb (x .done + x .outstanding) 0)))
 
   -- ---- a step with a delivery
 
-  module _ (d : List ℕ) (v : Came d (w .queue)) where
+  module _ (d : List ℕ) (came : Came d (w .queue)) where
     abbrev Keeps : Outcome → Type 0
     Keeps r = Kept c dbg en (dueRegion c dbg x w) (boundRegion c dbg x w) w d r
 
@@ -189,6 +195,7 @@ module _ (c : Setting) (dbg : Debug) (en : Ending) (k : ℕ) (x : Region) (w : G
                 fits = g .fits;
                 table = g .table;
                 queue = rw append-nil (g .queue);
+                width = g .width;
                 entry = g .entry;
                 reads = g .reads;
                 named = g .named;
@@ -197,7 +204,7 @@ module _ (c : Setting) (dbg : Debug) (en : Ending) (k : ℕ) (x : Region) (w : G
                 cut = g .cut;
                 idle = λ q. g .idle e;
               };
-          told = rw e (due-law u (c .mem) (x .entry) (x .base) (x .len) (x .done) _ (x .outstanding));
+          told = rw e (due-law v u (c .mem) (x .entry) (x .base) (x .len) (x .done) _ (x .outstanding));
           fell = rw e (omega arith);
         }
 
@@ -215,10 +222,11 @@ module _ (c : Setting) (dbg : Debug) (en : Ending) (k : ℕ) (x : Region) (w : G
                 fits = g .fits;
                 table = g .table;
                 queue = rw append-nil (g .queue ∙ rw z (no-bytes (c .mem) _));
+                width = g .width;
                 entry = omega (arith, g .entry);
                 reads = omega (arith, g .reads);
               };
-          told = rw (m, o, e, z, close-law u (c .mem) (x .entry) (x .base) (x .len) (x .done) _ h, add-zero (w .session .reads)) refl;
+          told = rw (m, o, e, z, close-law v u (c .mem) (x .entry) (x .base) (x .len) (x .done) _ h, add-zero (w .session .reads)) refl;
           fell = omega arith;
         }
 
@@ -228,7 +236,7 @@ module _ (c : Setting) (dbg : Debug) (en : Ending) (k : ℕ) (x : Region) (w : G
 
     -- the memory read of it
     abbrev p : Request
-    p = Q.MemRead64 (x .base + x .done) size
+    p = Q.MemRead v (x .base + x .done) size
 
     -- the next chunk is asked for
     ask : x .due ≡ false → x .outstanding ≡ 0 → x .done < x .len
@@ -254,7 +262,8 @@ module _ (c : Setting) (dbg : Debug) (en : Ending) (k : ℕ) (x : Region) (w : G
                 declared = g .declared;
                 fits = g .fits;
                 table = g .table;
-                queue = rw (q, st) (served-read (c .mem) (x .base + x .done) size (omega (arith, g .top)) (omega (arith, good .most)));
+                queue = rw (q, st) (served-read (c .mem) v (x .base + x .done) size (omega (arith, g .top)) (omega (arith, good .most)));
+                width = g .width;
                 entry = g .entry;
                 reads = rw (sym f) (g .reads);
                 named = g .named;
@@ -263,7 +272,7 @@ module _ (c : Setting) (dbg : Debug) (en : Ending) (k : ℕ) (x : Region) (w : G
                 cut = λ i. omega (arith, good .multiple);
                 idle = λ i. cc;
               };
-          told = rw (f, e, z, st) (ask-law u (c .mem) (x .entry) (x .base) (x .len) (x .done) _ good h m);
+          told = rw (f, e, z, st) (ask-law v u (c .mem) (x .entry) (x .base) (x .len) (x .done) _ good h m);
           fell = rw (r, e, z, ne-eqb size 0 (omega arith)) (omega arith);
         }
 
@@ -284,7 +293,7 @@ module _ (c : Setting) (dbg : Debug) (en : Ending) (k : ℕ) (x : Region) (w : G
     hand e z y m =
         let r : x .done + j + (x .outstanding - j) ≡ x .done + x .outstanding = omega arith in
         let b : take j d ≡ bytesAt (c .mem) (x .base + x .done) j =
-        first-of d (w .queue) j v (omega arith) ∙ ap (take j) (g .queue) ∙ take-bytesAt (c .mem) _ (x .outstanding) j (omega arith) in
+        first-of d (w .queue) j came (omega arith) ∙ ap (take j) (g .queue) ∙ take-bytesAt (c .mem) _ (x .outstanding) j (omega arith) in
         record {
           good =
               record {
@@ -293,6 +302,7 @@ module _ (c : Setting) (dbg : Debug) (en : Ending) (k : ℕ) (x : Region) (w : G
                 fits = g .fits;
                 table = g .table;
                 queue = rw (append-nil, g .queue, drop-bytesAt (c .mem) (x .base + x .done) (x .outstanding) j (omega arith), add-assoc) refl;
+                width = g .width;
                 entry = g .entry;
                 reads = rw r (g .reads);
                 named = g .named;
@@ -301,10 +311,10 @@ module _ (c : Setting) (dbg : Debug) (en : Ending) (k : ℕ) (x : Region) (w : G
                 cut = rw r (g .cut);
                 idle = due-only u (x .outstanding - j) (x .done + j);
               };
-          told = rw (e, b, r) (hand-law u (c .mem) (x .entry) (x .base) (x .len) (x .done) _ (x .outstanding) j (omega arith) (omega arith));
+          told = rw (e, b, r) (hand-law v u (c .mem) (x .entry) (x .base) (x .len) (x .done) _ (x .outstanding) j (omega arith) (omega arith));
           fell =
               rw e
-              (below (cost u (tableAt c dbg) (toCome c dbg (suc (x .entry))))
+              (below (cost v u (tableAt c dbg) (toCome c dbg v (suc (x .entry))))
               (hand-bound u (x .entry) (x .base) (x .len) (x .done) (x .outstanding) j (omega arith) (omega arith) (g .within)));
         }
 
@@ -314,20 +324,20 @@ module _ (c : Setting) (dbg : Debug) (en : Ending) (k : ℕ) (x : Region) (w : G
         by-test (leb (x .len) (x .done)) (λ m. via c dbg en (rw m refl) (close e z (leb-true _ _ m)))
         (λ m. via c dbg en (rw m refl) (ask e z (leb-false _ _ m)))
 
-    asked : x .due ≡ false → x .outstanding ≡ 0 → Keeps (askOf 8 (w .session) k x (w .table) (w .reply) (w .out))
+    asked : x .due ≡ false → x .outstanding ≡ 0 → Keeps (askOf (w .session) k x (w .table) (w .reply) (w .out))
     unfolding askOf
     asked e z =
-        let t : ltb (256 ^ 8) (x .base + x .len) ≡ false = le-ltb (256 ^ 8) (x .base + x .len) (g .top) in
+        let t : ltb (256 ^ fieldSize v) (x .base + x .len) ≡ false = le-ltb (256 ^ fieldSize v) (x .base + x .len) (g .top) in
         by-test (eqb (x .done) 0) (λ m. via c dbg en (rw (m, g .named, t) refl) (next e z)) (λ m. via c dbg en (rw m refl) (next e z))
 
     handed : x .due ≡ false → (x .outstanding ≡ 0 → ⊥) → Keeps (handOf (w .session) k x d (w .table) (w .reply) (w .out))
     unfolding handOf
     handed e z =
         let q : length (w .queue) ≡ x .outstanding = ap length (g .queue) ∙ length-bytesAt (c .mem) _ (x .outstanding) in
-        let y : 0 < length d = v .some (omega arith) in
-        via c dbg en (rw (ne-eqb (length d) 0 (omega arith)) refl) (hand e z y (omega (arith, no-longer d (w .queue) v)))
+        let y : 0 < length d = came .some (omega arith) in
+        via c dbg en (rw (ne-eqb (length d) 0 (omega arith)) refl) (hand e z y (omega (arith, no-longer d (w .queue) came)))
 
-    pub regionKept : Keeps (regionOf 8 (w .session) k x d (w .table) (w .reply) (w .out))
+    pub regionKept : Keeps (regionOf (w .session) k x d (w .table) (w .reply) (w .out))
     unfolding regionOf
     regionKept =
         by-test (x .due) (λ e. via c dbg en (rw e refl) (due-read e))

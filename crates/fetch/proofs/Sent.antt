@@ -8,6 +8,7 @@ use native.Mathlib.Omega.{arith}
 use native.Mathlib.Nat.{add-assoc, zero-add}
 use lib.ListN.{length}
 use Rattle.field.specs.Field.{le, leBytes}
+use Rattle.field.specs.declared.Width.the-variants as WI
 use Rattle.build.specs.Build.{fields, bytesOf, front}
 use Rattle.build.specs.declared.Request.{Request}
 use Rattle.build.specs.declared.Request.the-variants as Q
@@ -28,7 +29,7 @@ asks (Q.Execute c) = false
 asks (Q.ExecuteData c) = false
 asks Q.SwitchMode = false
 asks Q.Reset = false
-asks (Q.MemRead64 a k) = true
+asks (Q.MemRead v a k) = true
 
 pub asks-read : (q : Request) → isRead (bytesOf q) ≡ asks q
 unfolding bytesOf fields le leBytes
@@ -38,7 +39,8 @@ asks-read (Q.Execute c) = refl
 asks-read (Q.ExecuteData c) = refl
 asks-read Q.SwitchMode = refl
 asks-read Q.Reset = refl
-asks-read (Q.MemRead64 a k) = refl
+asks-read (Q.MemRead WI.Bits32 a k) = refl
+asks-read (Q.MemRead WI.Bits64 a k) = refl
 
 -- ---- in lists of reports
 

@@ -7,6 +7,9 @@ use Prim.Native.Nat.{ℕ, _+_, _-_, _^_, min}
 use lib.Dec.{eqb, ltb, leb, T}
 use lib.ListN.{length, take}
 use Rattle.bundle.specs.Bundle.{wellFormed}
+use Rattle.field.specs.Field.{fieldSize}
+use Rattle.field.specs.declared.Width.{Width}
+use Rattle.field.specs.declared.Width.the-variants as WI
 use Rattle.entry.specs.Entry.{entryOf, filenameOf}
 use Rattle.utf8.specs.Utf8.{utf8}
 use Rattle.filename.specs.Filename.{before, has, openCheck, afterOpenCheck}
@@ -26,7 +29,7 @@ use Rattle.session.specs.Outcome.{Outcome, outcome, isEnded, untouched}
 use Rattle.session.specs.PacketPhase.{keep, acted, wholeOf, sizedOf, packetOf}
 use Rattle.session.specs.FillingPhase.{responseOf, switchedOf, tableOf}
 use Rattle.session.specs.BetweenPhase.{entriesIn, openOf, betweenOf}
-use Rattle.session.specs.RegionPhase.{nextChunk, begunOf, askOf, handOf, regionOf}
+use Rattle.session.specs.RegionPhase.{pastEnd, nameIn, nextChunk, begunOf, askOf, handOf, regionOf}
 use Rattle.session.specs.Limits.{limitOf}
 use Rattle.session.specs.Step.{onPhase, stepOf}
 use Rattle.fetch.specs.Device.{aside}
@@ -52,7 +55,15 @@ opened-sane : (name : List ℕ) → NameSane (afterOpenCheck name)
 unfolding afterOpenCheck
 opened-sane name = split NameSane (utf8 name) (λ e. tt) (λ e. refl)
 
+past-sane : (v : Width) → Ends (pastEnd v)
+past-sane WI.Bits32 = refl
+past-sane WI.Bits64 = refl
+
 module _ (s : Session) (d set names t y o : List ℕ) where
+  -- the bytes of the session's numbers
+  abbrev f : ℕ
+  f = fieldSize (s .width)
+
   -- ---- no phase but the ended one refuses so
 
   acted-quiet : (n : ℕ) (w : List ℕ) (v : Verdict) → Sane set (length t) v → Quiet (acted s n w t y o v)
@@ -61,7 +72,7 @@ module _ (s : Session) (d set names t y o : List ℕ) where
   acted-quiet n w W.Pass e = λ h. h
   acted-quiet n w (W.Finish how) e = λ h. h
   acted-quiet n w (W.Respond c k) e = λ h. h
-  acted-quiet n w (W.Debug a k) e = λ h. h
+  acted-quiet n w (W.Debug v a k) e = λ h. h
   acted-quiet n w (W.Refused why) e = rw e (λ h. h)
 
   pub packet-quiet : (h : ℕ) → Quiet (packetOf s h d set t y o)
@@ -92,37 +103,38 @@ module _ (s : Session) (d set names t y o : List ℕ) where
   unfolding tableOf
   table-quiet x = split Quiet (ltb (x .filled + min (x .declared - x .filled) (length d)) (x .declared)) (λ e h. h) (λ e h. h)
 
-  opening-quiet : (k i : ℕ) (e : List ℕ) (c : NameCheck) → NameSane c → Quiet (outcome (openOf 8 s k i e c) t y o)
+  opening-quiet : (k i : ℕ) (e : List ℕ) (c : NameCheck) → NameSane c → Quiet (outcome (openOf f s k i e c) t y o)
   opening-quiet k i e N.Good m = λ h. h
   opening-quiet k i e (N.Refused why) m = rw m (λ h. h)
 
-  pub between-quiet : (k from : ℕ) → Quiet (outcome (betweenOf 8 s k from names t) t y o)
+  pub between-quiet : (k from : ℕ) → Quiet (outcome (betweenOf f s k from names t) t y o)
   unfolding betweenOf
   between-quiet k from =
-      let i : ℕ = nextOf 8 names t (entriesIn 8 k - from) from in
-      let e : List ℕ = entryOf 8 t i in
-      split (λ r. Quiet (outcome r t y o)) (ltb i (entriesIn 8 k))
-      (λ m. opening-quiet k i e (openCheck (filenameOf 8 e)) (opening-sane (filenameOf 8 e))) (λ m h. h)
+      let i : ℕ = nextOf f names t (entriesIn f k - from) from in
+      let e : List ℕ = entryOf f t i in
+      split (λ r. Quiet (outcome r t y o)) (ltb i (entriesIn f k))
+      (λ m. opening-quiet k i e (openCheck (filenameOf f e)) (opening-sane (filenameOf f e))) (λ m h. h)
 
   next-quiet : (k : ℕ) (x : Region) → Quiet (nextChunk s k x t y o)
   unfolding nextChunk
   next-quiet k x = split Quiet (leb (x .len) (x .done)) (λ e h. h) (λ e h. h)
 
-  begun-quiet : (k : ℕ) (x : Region) (c : NameCheck) → NameSane c → Quiet (begunOf 8 s k x t y o c)
-  begun-quiet k x N.Good e = split Quiet (ltb (256 ^ 8) (x .base + x .len)) (λ m h. h) (λ m. next-quiet k x)
+  begun-quiet : (k : ℕ) (x : Region) (c : NameCheck) → NameSane c → Quiet (begunOf s k x t y o c)
+  begun-quiet k x N.Good e =
+      split Quiet (ltb (256 ^ f) (x .base + x .len)) (λ m. rw (past-sane (s .width)) (λ h. h)) (λ m. next-quiet k x)
   begun-quiet k x (N.Refused why) e = rw e (λ h. h)
 
-  ask-quiet : (k : ℕ) (x : Region) → Quiet (askOf 8 s k x t y o)
+  ask-quiet : (k : ℕ) (x : Region) → Quiet (askOf s k x t y o)
   unfolding askOf
   ask-quiet k x =
-      let name : List ℕ = filenameOf 8 (entryOf 8 t (x .entry)) in
+      let name : List ℕ = nameIn (s .width) t x in
       split Quiet (eqb (x .done) 0) (λ e. begun-quiet k x (afterOpenCheck name) (opened-sane name)) (λ e. next-quiet k x)
 
   hand-quiet : (k : ℕ) (x : Region) → Quiet (handOf s k x d t y o)
   unfolding handOf
   hand-quiet k x = split Quiet (eqb (length d) 0) (λ e h. h) (λ e h. h)
 
-  pub region-quiet : (k : ℕ) (x : Region) → Quiet (regionOf 8 s k x d t y o)
+  pub region-quiet : (k : ℕ) (x : Region) → Quiet (regionOf s k x d t y o)
   unfolding regionOf
   region-quiet k x =
       split Quiet (x .due) (λ e h. h) (λ e. split Quiet (eqb (x .outstanding) 0) (λ m. ask-quiet k x) (λ m. hand-quiet k x))

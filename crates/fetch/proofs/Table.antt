@@ -9,6 +9,7 @@ use lib.ListN.{length, take, drop, length-drop, drop-of-length-le}
 use lib.Seq.{paste, length-paste, take-paste, take-add, take-all, drop-drop}
 use borrow.Author.Tests.{ltb-true, ltb-false, le-ltb}
 use Rattle.base.proofs.Ranges.{by-test}
+use Rattle.field.specs.Field.{fieldSize}
 use Rattle.verdict.specs.Verdict.{room}
 use Rattle.session.specs.declared.Filling.{Filling}
 use Rattle.session.specs.declared.Phase.the-variants as P
@@ -31,7 +32,7 @@ module _ (c : Setting) (dbg : Debug) (en : Ending) (x : Filling) (w : Ghost) (g 
   queue-length : length (w .queue) ≡ (dbg .size) - f
   queue-length = ap length (g .queue) ∙ length-drop f t ∙ ap (λ (i : ℕ). i - f) (length-bytesAt (c .mem) (dbg .address) (dbg .size))
 
-  pub limits : (readsLimit (w .session) || phaseLimit 8 (w .session .window) (P.Table x) (w .table) (w .reply)) ≡ false
+  pub limits : (readsLimit (w .session) || phaseLimit (fieldSize (w .session .width)) (w .session .window) (P.Table x) (w .table) (w .reply)) ≡ false
   limits =
       rw (
         g .reads,
@@ -76,6 +77,7 @@ module _ (c : Setting) (dbg : Debug) (en : Ending) (x : Filling) (w : Ghost) (g 
                 filled = omega arith;
                 table = filled-more;
                 queue = queue-left;
+                width = g .width;
                 reads = g .reads;
               };
           told = refl;
@@ -94,6 +96,7 @@ module _ (c : Setting) (dbg : Debug) (en : Ending) (x : Filling) (w : Ghost) (g 
                 fits = fits-still;
                 table = ap (λ (i : ℕ). take i (paste (w .table) f d k)) (sym e) ∙ filled-more ∙ rw e (take-all (dbg .size) t l);
                 queue = queue-left ∙ rw e (drop-of-length-le t l);
+                width = g .width;
                 entry = omega arith;
                 reads = omega (arith, g .reads);
               };

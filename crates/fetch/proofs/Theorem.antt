@@ -5,7 +5,7 @@ use mathlib.Core.Path.{_≡_, refl, sym, ap, subst, _∙_}
 use mathlib.Core.Logic.{_⊎_, inl, inr}
 use mathlib.Core.Bool.{Bool, true, false, not, _&&_, _||_}
 use mathlib.Core.List.{List, [], _++_, append-nil}
-use Prim.Native.Nat.{ℕ, _+_, _-_, _*_, _^_, _≤_}
+use Prim.Native.Nat.{ℕ, _+_, _-_, _*_, _≤_}
 use native.Mathlib.Omega.{arith}
 use native.Mathlib.Nat.{add-zero, sub-zero}
 use lib.Dec.{ltb, T}
@@ -13,6 +13,8 @@ use lib.ListN.{length}
 use borrow.Author.Tests.{le-ltb, ltb-false, not-false}
 use Rattle.base.specs.Choice.{pick}
 use Rattle.base.proofs.Ranges.{by-test}
+use Rattle.field.specs.Field.{fieldSize}
+use Rattle.field.specs.declared.Width.the-variants as WI
 use Rattle.bundle.specs.Bundle.{wellFormed}
 use Rattle.session.specs.declared.Phase.{Phase}
 use Rattle.session.specs.declared.Phase.the-variants as P
@@ -26,9 +28,9 @@ use Rattle.fetch.specs.Plain.{
   Report,
   Debug,
   debug,
+  fieldIn,
   Ending,
   Stopped,
-  Responded,
   Debugged,
   stop,
   hear,
@@ -192,7 +194,7 @@ module _ (c : Setting) (dbg : Debug) (en : Ending) (x : Ready c dbg en) where
   -- no count is above its limit
   within : (w : Ghost) (d : List ℕ) (p : Phase) → goodAt c dbg en p w
       → pick (isEnded p) (untouched (w .session) 4 (w .table) (w .reply) (w .out))
-      (pick (readsLimit (w .session) || phaseLimit 8 (w .session .window) p (w .table) (w .reply))
+      (pick (readsLimit (w .session) || phaseLimit (fieldSize (w .session .width)) (w .session .window) p (w .table) (w .reply))
       (untouched (w .session) 18 (w .table) (w .reply) (w .out)) (at w d p))
       ≡ at w d p
   within w d (P.Packet h) g = rw (Packet.limits c dbg en h w g) refl
@@ -443,7 +445,7 @@ module _ (c : Setting) (dbg : Debug) (p : Premises c dbg) where
       record {
         set = sound .set;
         names = sound .names;
-        fit = record { silent = no-response dbg []; asked = λ b m r e. (cc e, cc e, cc e); top = p .top };
+        fit = record { silent = no-response dbg []; asked = λ v b m r e. (cc e, cc e, cc e, cc e); top = p .top };
         safe = p .regions;
       }
 
@@ -457,11 +459,15 @@ module _ (c : Setting) (dbg : Debug) (p : Premises c dbg) where
 
 -- ---- it stops
 
-stopped-fits : Fits (debug 0 0) Stopped
+-- no memory debug: one of nothing stands for it
+abbrev nowhere : Debug
+nowhere = debug WI.Bits64 0 0
+
+stopped-fits : Fits nowhere Stopped
 stopped-fits =
     record {
       silent = λ e. let y : _≡_ {A = ℕ} 0 1 = cc in omega arith;
-      asked = λ b m r e. never (debug b m) r (sym e);
+      asked = λ v b m r e. never (debug v b m) r (sym e);
       top = omega arith;
     }
 
@@ -507,7 +513,7 @@ module _ (c : Setting) (e : heardOf c .ending ≡ Stopped) (ls : List Lent) (f :
       go : Sound c ⊎ Stuck c → Fetched definitions c (length (c .bytes)) ls
       go (inl t) =
           subst (λ (n : ℕ). Fetched definitions c n ls) (add-zero (length (c .bytes)))
-          (heard c (debug 0 0) Stopped
+          (heard c nowhere Stopped
           (record { set = t .set; names = t .names; fit = stopped-fits; safe = λ i l. absurd (omega arith) }) t e ls f)
       go (inr z) = stuck c z ls f (length (c .bytes))
 
@@ -526,8 +532,8 @@ means h d c dbg p ls f e = rw (d c (dumps dbg p) ls f .whole e) (plain-meant c d
 -- the count of 01, the memory reads counted in the plain host's own report
 pub enough-counts : (c : Setting) (dbg : Debug) → Premises c dbg
     → enough c dbg
-    ≡ length (c .bytes) + dbg .size + regionBytes 8 (tableIn (c .mem) dbg) (selectedIn 8 (c .mem) (c .names) dbg)
-    + 2 * length (selectedIn 8 (c .mem) (c .names) dbg)
+    ≡ length (c .bytes) + dbg .size + regionBytes (fieldIn dbg) (tableIn (c .mem) dbg) (selectedIn (c .mem) (c .names) dbg)
+    + 2 * length (selectedIn (c .mem) (c .names) dbg)
     + 2 * readsIn (plain c)
 unfolding enough
 enough-counts c dbg p = rw (plain-meant c dbg [] (p .opens) .reads) refl

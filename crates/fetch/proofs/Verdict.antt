@@ -9,6 +9,8 @@ use lib.Dec.{ltb, leb, eqb}
 use lib.ListN.{length}
 use borrow.Author.Tests.{ltb-false}
 use Rattle.base.specs.Choice.{pick}
+use Rattle.field.specs.declared.Width.{Width}
+use Rattle.field.specs.declared.Width.the-variants as WI
 use Rattle.bundle.specs.Bundle.{countOf, slotOf}
 use Rattle.bundle.specs.declared.Slot.{Slot}
 use Rattle.bundle.specs.declared.Slot.the-variants as S
@@ -26,7 +28,7 @@ use Rattle.packet.specs.declared.SaharaPacketBody.{SaharaPacketBody}
 use Rattle.packet.specs.declared.SaharaPacketBody.the-variants as B
 use Rattle.packet.specs.declared.Decoded.{Decoded}
 use Rattle.packet.specs.declared.Decoded.the-variants as D
-use Rattle.verdict.specs.Verdict.{imageFor, executeFor, room, onBody, onDecoded, verdictOf}
+use Rattle.verdict.specs.Verdict.{exactly, imageFor, executeFor, room, tableFor, onBody, onDecoded, verdictOf}
 use Rattle.verdict.specs.declared.ExecCommand.{ExecCommand}
 use Rattle.verdict.specs.declared.ExecCommand.the-variants as X
 use Rattle.verdict.specs.declared.Opening.{Opening}
@@ -70,7 +72,7 @@ Sane set tsize (W.Image x k) = x + k ≤ length set
 Sane set tsize W.Pass = Unit
 Sane set tsize (W.Finish how) = Unit
 Sane set tsize (W.Respond c k) = Unit
-Sane set tsize (W.Debug a k) = k ≤ room tsize
+Sane set tsize (W.Debug v a k) = k ≤ room tsize
 Sane set tsize (W.Refused why) = Ends why
 
 module _ (u : Opening) (set : List ℕ) (tsize rsize : ℕ) where
@@ -98,6 +100,9 @@ module _ (u : Opening) (set : List ℕ) (tsize rsize : ℕ) where
   execute-sane (X.Is c) = refl
   execute-sane X.None = refl
 
+  table-sane : (len n : ℕ) (v : Width) (a k : ℕ) → Fine (exactly len n (tableFor tsize v a k))
+  table-sane len n v a k = split Fine (eqb len n) (λ e. split Fine (ltb (room tsize) k) (λ i. refl) (λ i. ltb-false _ _ i)) (λ e. refl)
+
   on-body : (len : ℕ) (b : SaharaPacketBody) → Fine (onBody u set tsize rsize len b)
   on-body len (B.HelloReq b) = split Fine (eqb len 48) (λ e. refl) (λ e. refl)
   on-body len (B.HelloResp b) = refl
@@ -106,11 +111,12 @@ module _ (u : Opening) (set : List ℕ) (tsize rsize : ℕ) where
   on-body len B.DoneReq = refl
   on-body len (B.DoneResp b) = split Fine (eqb (b .status) 1) (λ e. tt) (λ e. split Fine (eqb (countOf set) 1) (λ i. tt) (λ i. tt))
   on-body len B.ResetResp = split Fine (eqb len 8) (λ e. tt) (λ e. refl)
+  on-body len (B.DebugReq b) = table-sane len 16 WI.Bits32 (b .addr) (b .len)
+  on-body len (B.ReadMemReq b) = refl
   on-body len B.CommandReady = split Fine (eqb len 8) (λ e. execute-sane (u .command)) (λ e. refl)
   on-body len (B.ExecResp b) = split Fine (ltb rsize (b .len)) (λ e. refl) (λ e. tt)
   on-body len (B.ExecData b) = refl
-  on-body len (B.Debug64Req b) =
-      split Fine (eqb len 24) (λ e. split Fine (ltb (room tsize) (b .len)) (λ i. refl) (λ i. ltb-false _ _ i)) (λ e. refl)
+  on-body len (B.Debug64Req b) = table-sane len 24 WI.Bits64 (b .addr) (b .len)
   on-body len (B.ReadMem64Req b) = refl
   on-body len (B.ReadData64Req b) = split Fine (eqb len 32) (λ e. image-sane (b .image) (b .offset) (b .len)) (λ e. refl)
 

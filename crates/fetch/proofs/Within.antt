@@ -10,6 +10,7 @@ use lib.ListN.{length, take}
 use lib.Seq.{paste, length-paste}
 use borrow.Author.Tests.{ltb-true, ltb-false, leb-false}
 use Rattle.bundle.specs.Bundle.{wellFormed}
+use Rattle.field.specs.Field.{fieldSize}
 use Rattle.entry.specs.Entry.{entrySize, entryOf, filenameOf}
 use Rattle.filename.specs.Filename.{openCheck, afterOpenCheck}
 use Rattle.filename.specs.declared.NameCheck.{NameCheck}
@@ -34,7 +35,7 @@ use Rattle.session.specs.Outcome.{Outcome, outcome, gives, isEnded, untouched}
 use Rattle.session.specs.PacketPhase.{keep, acted, wholeOf, sizedOf, packetOf}
 use Rattle.session.specs.FillingPhase.{responseOf, switchedOf, tableOf}
 use Rattle.session.specs.BetweenPhase.{entriesIn, openOf, betweenOf}
-use Rattle.session.specs.RegionPhase.{nextChunk, begunOf, askOf, handOf, regionOf}
+use Rattle.session.specs.RegionPhase.{pastEnd, nameIn, nextChunk, begunOf, askOf, handOf, regionOf}
 use Rattle.session.specs.Limits.{readsLimit, phaseLimit, limitOf}
 use Rattle.session.specs.Step.{onPhase, stepOf}
 use Rattle.steps.specs.Steps.{Throughout}
@@ -47,17 +48,21 @@ use Rattle.fetch.proofs.Sent.{length-out}
 use Rattle.fetch.proofs.Verdict.{Sane, sane}
 
 module _ (s : Session) (d set names t y o : List ℕ) where
+  -- the bytes of the session's numbers
+  abbrev f : ℕ
+  f = fieldSize (s .width)
+
   -- what a step from s gave; and of a session that it ended, the reply that it keeps
   record Keeps (r : Outcome) : Type 0 where
-    pub within : Within (givenOf r) d set t y o
+    pub within : Within f (givenOf r) d set t y o
     pub reply : isEnded (s .phase) ≡ false → replyWithin (r .stepped .session .phase) y
 
   abbrev Replies : Session → Type 0
   Replies z = isEnded (s .phase) ≡ false → replyWithin (z .phase) y
 
   -- no buffer is changed
-  plainly : (z : Session) (n : ℕ) (a : Answer) → n ≤ length d → answerWithin a d set t o → Replies z → Keeps (outcome (gives z n a) t y o)
-  plainly z n a h k f = record { within = record { taken = h; answer = k; table = refl; reply = refl; out = refl }; reply = f }
+  plainly : (z : Session) (n : ℕ) (a : Answer) → n ≤ length d → answerWithin f a d set t o → Replies z → Keeps (outcome (gives z n a) t y o)
+  plainly z n a h k e = record { within = record { taken = h; answer = k; table = refl; reply = refl; out = refl }; reply = e }
 
   none : 0 ≤ length d
   none = omega arith
@@ -82,10 +87,10 @@ module _ (s : Session) (d set names t y o : List ℕ) where
 
   module _ (room : 48 ≤ length o) where
     sends : (q : Request) (z : Session) (n : ℕ) → n ≤ length d → Replies z → Keeps (outcome (gives z n (A.Send (sizeOf q))) t y (front q o))
-    sends q z n h f =
+    sends q z n h e =
         record {
           within = record { taken = h; answer = omega (arith, size-most q); table = refl; reply = refl; out = length-out q o room };
-          reply = f;
+          reply = e;
         }
 
     acted-within : (n : ℕ) (w : List ℕ) → n ≤ length d → (v : Verdict) → Sane set (length t) v → Keeps (acted s n w t y o v)
@@ -94,7 +99,7 @@ module _ (s : Session) (d set names t y o : List ℕ) where
     acted-within n w h W.Pass e = plainly _ n A.Go h tt (λ i. tt)
     acted-within n w h (W.Finish how) e = plainly _ n (A.Finished how (s .reads)) h tt (λ i. no-reply)
     acted-within n w h (W.Respond c k) e = sends (Q.ExecuteData c) _ n h (λ i. tt)
-    acted-within n w h (W.Debug a k) e = sends (Q.MemRead64 a k) _ n h (λ i. tt)
+    acted-within n w h (W.Debug x a k) e = sends (Q.MemRead x a k) _ n h (λ i. tt)
     acted-within n w h (W.Refused why) e = plainly _ n (A.Refused why) h tt (λ i. no-reply)
 
     packet-within : (h : ℕ) → Keeps (packetOf s h d set t y o)
@@ -157,37 +162,37 @@ module _ (s : Session) (d set names t y o : List ℕ) where
     switched-within k h = plainly _ 0 (A.Finished 4 (s .reads)) none tt (λ i. h)
 
     -- an entry of a table that its buffer holds
-    entry-in : (k i : ℕ) → k ≤ length t → i < entriesIn 8 k → entrySize 8 * (i + 1) ≤ length t
-    entry-in k i h l = omega (arith, entry-end 8 k i l)
+    entry-in : (k i : ℕ) → k ≤ length t → i < entriesIn f k → entrySize f * (i + 1) ≤ length t
+    entry-in k i h l = omega (arith, entry-end f k i l)
 
-    open-within : (k i : ℕ) (e : List ℕ) (c : NameCheck) → entrySize 8 * (i + 1) ≤ length t → Keeps (outcome (openOf 8 s k i e c) t y o)
+    open-within : (k i : ℕ) (e : List ℕ) (c : NameCheck) → entrySize f * (i + 1) ≤ length t → Keeps (outcome (openOf f s k i e c) t y o)
     open-within k i e N.Good h = plainly _ 0 (A.Open i) none h (λ j. tt)
     open-within k i e (N.Refused why) h = plainly _ 0 (A.Refused why) none tt (λ j. no-reply)
 
-    between-within : (k from : ℕ) → k ≤ length t → Keeps (outcome (betweenOf 8 s k from names t) t y o)
+    between-within : (k from : ℕ) → k ≤ length t → Keeps (outcome (betweenOf f s k from names t) t y o)
     unfolding betweenOf
     between-within k from h =
-        let i : ℕ = nextOf 8 names t (entriesIn 8 k - from) from in
-        split (λ r. Keeps (outcome r t y o)) (ltb i (entriesIn 8 k))
-        (λ m. open-within k i (entryOf 8 t i) (openCheck (filenameOf 8 (entryOf 8 t i))) (entry-in k i h (ltb-true _ _ m)))
+        let i : ℕ = nextOf f names t (entriesIn f k - from) from in
+        split (λ r. Keeps (outcome r t y o)) (ltb i (entriesIn f k))
+        (λ m. open-within k i (entryOf f t i) (openCheck (filenameOf f (entryOf f t i))) (entry-in k i h (ltb-true _ _ m)))
         (λ m. plainly _ 0 (A.Finished 3 (s .reads)) none tt (λ j. no-reply))
 
-    module _ (k : ℕ) (x : Region) (h : entrySize 8 * (x .entry + 1) ≤ length t) where
+    module _ (k : ℕ) (x : Region) (h : entrySize f * (x .entry + 1) ≤ length t) where
       next-within : Keeps (nextChunk s k x t y o)
       unfolding nextChunk
       next-within =
           split Keeps (leb (x .len) (x .done)) (λ m. plainly _ 0 (A.Close (x .entry)) none h (λ j. tt))
-          (λ m. sends (Q.MemRead64 _ _) _ 0 none (λ j. tt))
+          (λ m. sends (Q.MemRead (s .width) _ _) _ 0 none (λ j. tt))
 
-      begun-within : (c : NameCheck) → Keeps (begunOf 8 s k x t y o c)
+      begun-within : (c : NameCheck) → Keeps (begunOf s k x t y o c)
       begun-within N.Good =
-          split Keeps (ltb (256 ^ 8) (x .base + x .len)) (λ m. plainly _ 0 (A.Refused 22) none tt (λ j. no-reply)) (λ m. next-within)
+          split Keeps (ltb (256 ^ f) (x .base + x .len)) (λ m. plainly _ 0 (A.Refused (pastEnd (s .width))) none tt (λ j. no-reply)) (λ m. next-within)
       begun-within (N.Refused why) = plainly _ 0 (A.Refused why) none tt (λ j. no-reply)
 
-      ask-within : Keeps (askOf 8 s k x t y o)
+      ask-within : Keeps (askOf s k x t y o)
       unfolding askOf
       ask-within =
-          split Keeps (eqb (x .done) 0) (λ m. begun-within (afterOpenCheck (filenameOf 8 (entryOf 8 t (x .entry))))) (λ m. next-within)
+          split Keeps (eqb (x .done) 0) (λ m. begun-within (afterOpenCheck (nameIn (s .width) t x))) (λ m. next-within)
 
       hand-within : Keeps (handOf s k x d t y o)
       unfolding handOf
@@ -195,7 +200,7 @@ module _ (s : Session) (d set names t y o : List ℕ) where
           split Keeps (eqb (length d) 0) (λ m. plainly s 0 A.Go none tt (live (s .phase)))
           (λ m. plainly _ _ (A.Bytes _) (omega arith) (omega arith) (λ j. tt))
 
-      region-within : Keeps (regionOf 8 s k x d t y o)
+      region-within : Keeps (regionOf s k x d t y o)
       unfolding regionOf
       region-within =
           split Keeps (x .due) (λ m. plainly _ 0 A.EmptyRead none tt (λ j. tt))
@@ -203,7 +208,7 @@ module _ (s : Session) (d set names t y o : List ℕ) where
 
     -- ---- the step
 
-    phase-within : (p : Phase) → phaseLimit 8 (s .window) p t y ≡ false → Keeps (onPhase s p d set names t y o)
+    phase-within : (p : Phase) → phaseLimit f (s .window) p t y ≡ false → Keeps (onPhase s p d set names t y o)
     phase-within (P.Packet h) e = packet-within h
     phase-within (P.Response x) e = response-within x e
     phase-within (P.Switched k) e = switched-within k (ltb-false _ _ e)
@@ -225,10 +230,10 @@ module _ (s : Session) (d set names t y o : List ℕ) where
       (λ i.
       split Keeps (isEnded (s .phase)) (λ j. untouched-within 4)
       (λ j.
-      split Keeps (readsLimit s || phaseLimit 8 (s .window) (s .phase) t y) (λ k. untouched-within 18)
-      (λ k. phase-within (ltb-false _ _ i) (s .phase) (neither (readsLimit s) (phaseLimit 8 (s .window) (s .phase) t y) k .1))))))
+      split Keeps (readsLimit s || phaseLimit f (s .window) (s .phase) t y) (λ k. untouched-within 18)
+      (λ k. phase-within (ltb-false _ _ i) (s .phase) (neither (readsLimit s) (phaseLimit f (s .window) (s .phase) t y) k .1))))))
 
-  pub step-within : Within (givenOf (stepOf s d set names t y o)) d set t y o
+  pub step-within : Within f (givenOf (stepOf s d set names t y o)) d set t y o
   step-within = keeps .within
 
   -- a step that ends the session leaves no longer a reply in it than the buffer it was lent
@@ -236,7 +241,7 @@ module _ (s : Session) (d set names t y o : List ℕ) where
   reply-within = keeps .reply
 
 -- every step of every list, from any world: fair or not, refused or not, whatever it is lent
-pub within : (c : Setting) (w : World Session) (ls : List Lent) → Throughout (next definitions c) (StepWithin definitions c) w ls
+pub within : (c : Setting) (w : World Session) (ls : List Lent) → Throughout (next definitions c) (StepWithin definitions (λ s. s .width) c) w ls
 within c w [] = tt
 within c w (l ∷ ls) = (
   step-within (w .state) (delivered (l .delivery) (w .queue)) (lent (l .set) (c .set)) (lent (l .names) (c .names)) (lent (l .table) (w .table))

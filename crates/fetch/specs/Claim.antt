@@ -53,9 +53,9 @@ pub record Dumpable (f : ℕ) (e : List ℕ) : Type 0 where
   pub top : baseOf f e + lengthOf f e ≤ 256 ^ f
   pub named : sound (filenameOf f e) ≡ true
 
--- the plain host comes to the memory debug with no opening byte after it; the table ends at or below 2^64 or, of 32 bits, 2^32; the selected regions can be dumped. The first
--- holds more: the image set and the names are well formed and the out buffer has 48 bytes (`hosted` of specs/Plain: else the plain host stops before), and
--- the table fits its buffer and 65,536 (the memory debug's verdict). A setting c and a memory debug dbg are records of specs/Plain
+-- the plain host comes to the memory debug with no opening byte after it; the table ends at or below 2^64 or, of 32 bits, 2^32; the selected regions can be
+-- dumped. The first holds more: the image set and the names are well formed and the out buffer has 48 bytes (`hosted` of specs/Plain: else the plain host stops
+-- before), and the table fits its buffer and 65,536 (the memory debug's verdict). A setting c and a memory debug dbg are records of specs/Plain
 pub record Premises (c : Setting) (dbg : Debug) : Type 0 where
   pub opens : heardOf c .ending ≡ Debugged dbg []
   pub top : dbg .address + dbg .size ≤ 256 ^ fieldIn dbg

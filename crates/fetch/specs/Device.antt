@@ -101,7 +101,7 @@ left (another d) taken q = q
 
 -- what the device queues when a packet is sent: the memory's bytes, where it is a memory read, by the address and the length in it
 abbrev pub servedAs : (ℕ → ℕ) → List ℕ → Width → List ℕ → List ℕ
-servedAs mem p v other = pick (readsAs v p) (bytesAt mem (addressIn (fieldSize v) p) (lengthIn (fieldSize v) p)) other
+servedAs mem p v unread = pick (readsAs v p) (bytesAt mem (addressIn (fieldSize v) p) (lengthIn (fieldSize v) p)) unread
 
 unfoldable pub served : (ℕ → ℕ) → List ℕ → List ℕ
 served mem p = servedAs mem p WI.Bits32 (servedAs mem p WI.Bits64 [])

@@ -6,6 +6,8 @@ use Prim.Native.Nat.{ℕ, _+_, _*_, _≤_}
 use mathlib.Core.Path.{_≡_}
 use mathlib.Core.List.{List}
 use lib.ListN.{length}
+use Rattle.field.specs.Field.{fieldSize}
+use Rattle.field.specs.declared.Width.{Width}
 use Rattle.entry.specs.Entry.{entrySize}
 use Rattle.session.specs.declared.Phase.{Phase}
 use Rattle.session.specs.declared.Phase.the-variants as P
@@ -14,31 +16,31 @@ use Rattle.session.specs.declared.Answer.the-variants as A
 use Rattle.fetch.specs.Plain.{Setting}
 use Rattle.fetch.specs.Device.{Host, Given, Lent, lent, delivered, World, made}
 
--- lent the delivery d, the image set, the table t and the out buffer o
-abbrev pub answerWithin : Answer → List ℕ → List ℕ → List ℕ → List ℕ → Type 0
-answerWithin A.Go d set t o = Unit
-answerWithin (A.Send k) d set t o = k ≤ length o
-answerWithin (A.Image x k) d set t o = x + k ≤ length set
-answerWithin (A.Open i) d set t o = entrySize 8 * (i + 1) ≤ length t
-answerWithin (A.Bytes k) d set t o = k ≤ length d
-answerWithin A.EmptyRead d set t o = Unit
-answerWithin (A.Close i) d set t o = entrySize 8 * (i + 1) ≤ length t
-answerWithin (A.Finished how r) d set t o = Unit
-answerWithin (A.Refused why) d set t o = Unit
+-- lent the delivery d, the image set, the table t and the out buffer o; f is the width of an entry's numbers
+abbrev pub answerWithin : ℕ → Answer → List ℕ → List ℕ → List ℕ → List ℕ → Type 0
+answerWithin f A.Go d set t o = Unit
+answerWithin f (A.Send k) d set t o = k ≤ length o
+answerWithin f (A.Image x k) d set t o = x + k ≤ length set
+answerWithin f (A.Open i) d set t o = entrySize f * (i + 1) ≤ length t
+answerWithin f (A.Bytes k) d set t o = k ≤ length d
+answerWithin f A.EmptyRead d set t o = Unit
+answerWithin f (A.Close i) d set t o = entrySize f * (i + 1) ≤ length t
+answerWithin f (A.Finished how r) d set t o = Unit
+answerWithin f (A.Refused why) d set t o = Unit
 
 -- what a step gave, lent the delivery d, the image set and the table, reply and out buffers t, y, o: each buffer is as long as before
-pub record Within {S : Type 0} (r : Given S) (d set t y o : List ℕ) : Type 0 where
+pub record Within {S : Type 0} (f : ℕ) (r : Given S) (d set t y o : List ℕ) : Type 0 where
   pub taken : r .taken ≤ length d
-  pub answer : answerWithin (r .answer) d set t o
+  pub answer : answerWithin f (r .answer) d set t o
   pub table : length (r .table) ≡ length t
   pub reply : length (r .reply) ≡ length y
   pub out : length (r .out) ≡ length o
 
--- of a host's step
-abbrev pub StepWithin : (h : Host) (c : Setting) → World (h .State) → Lent → Type 0
-StepWithin h c w l =
-    Within (made h c w l) (delivered (l .delivery) (w .queue)) (lent (l .set) (c .set)) (lent (l .table) (w .table)) (lent (l .reply) (w .reply))
-    (lent (l .out) (w .out))
+-- of a host's step, from a state of this width
+abbrev pub StepWithin : (h : Host) → (h .State → Width) → (c : Setting) → World (h .State) → Lent → Type 0
+StepWithin h width c w l =
+    Within (fieldSize (width (w .state))) (made h c w l) (delivered (l .delivery) (w .queue)) (lent (l .set) (c .set)) (lent (l .table) (w .table))
+    (lent (l .reply) (w .reply)) (lent (l .out) (w .out))
 
 -- finished (4) leaves the reply's length in the session: so many bytes of the reply buffer y that was lent then
 abbrev pub replyWithin : Phase → List ℕ → Type 0

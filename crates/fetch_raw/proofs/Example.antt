@@ -1,11 +1,14 @@
--- The theorem is about something: a device of fetch/proofs/Refuted with a region of 2 bytes, calls by value and in place by turns, deliveries of any size:
--- its whole report. Assumes nothing.
+-- The theorem is about something: a device of fetch/proofs/Refuted of either width with a region of 2 bytes, calls by value and in place by turns, deliveries of any
+-- size: its whole report. Assumes nothing.
 use mathlib.Core.Path.{_≡_, refl, _∙_}
-use mathlib.Core.List.{[], _∷_}
+use mathlib.Core.List.{List, [], _∷_}
 use Prim.Native.Nat.{ℕ, zero, suc, _≤_}
 use native.Mathlib.Omega.{arith}
-use Rattle.field.specs.Field.{le, leBytes}
+use Rattle.field.specs.Field.{le, leBytes, fieldSize}
+use Rattle.field.specs.declared.Width.{Width}
+use Rattle.field.specs.declared.Width.the-variants as WI
 use Rattle.bundle.specs.Bundle.{slotsGood, wellFormed}
+use Rattle.entry.specs.Entry.{entrySize}
 use Rattle.selection.specs.Selection.{selected}
 use Rattle.command.specs.Command.{kinds, classOf}
 use Rattle.packet.specs.Packet.{kindOf, decodeOf}
@@ -14,13 +17,13 @@ use Rattle.build.specs.declared.Request.the-variants as Q
 use Rattle.verdict.specs.Opening.{chunkOf}
 use Rattle.verdict.specs.Verdict.{verdictOf}
 use Rattle.fetch.specs.Plain.{
+  Report,
   sent,
   opened,
   byte,
   closed,
   finished,
   bytesAt,
-  debug,
   hear,
   hosted,
   chosen,
@@ -33,7 +36,7 @@ use Rattle.fetch.specs.Plain.{
 use Rattle.fetch.specs.Device.{start}
 use Rattle.fetch.specs.Claim.{reports, regionBytes, regionReads, enough, dumps}
 use Rattle.fetch.proofs.Played.{drive, drive-fair, drive-owns}
-use Rattle.fetch.proofs.Refuted.{two, two-premises}
+use Rattle.fetch.proofs.Refuted.{entriesAt, two, two-premises}
 use Rattle.fetch_raw.specs.Calls.{Call, byValue, inPlace, calling}
 use Rattle.fetch_raw.proofs.Theorem.{fetch-raw}
 
@@ -43,21 +46,31 @@ byTurns zero = byValue
 byTurns (suc zero) = inPlace
 byTurns (suc (suc n)) = byTurns n
 
--- 24 opening bytes, 64 of the table, 2 of the region; one region; two memory reads
-steps : enough two (debug 0 64) ≡ 96
-unfolding enough regionBytes regionReads chunkOf chosen selected bytesAt fields le leBytes
-steps = refl
+-- 24 opening bytes, 64 of the table, 2 of the region; one region; two memory reads. Of 32 bits 16 and 52
+abbrev needed : Width → ℕ
+needed WI.Bits32 = 76
+needed WI.Bits64 = 96
 
-planned : plain two
-    ≡ sent (bytesOf (Q.MemRead64 0 64)) ∷ opened 0 ∷ sent (bytesOf (Q.MemRead64 1000 2)) ∷ byte 247 ∷ byte 248 ∷ closed 0 ∷ finished 3 2 ∷ []
+steps : (v : Width) → enough (two v) (entriesAt v 1) ≡ needed v
+unfolding enough regionBytes regionReads chunkOf chosen selected bytesAt fields le leBytes
+steps WI.Bits32 = refl
+steps WI.Bits64 = refl
+
+-- the whole report
+abbrev told : Width → List Report
+told v =
+    sent (bytesOf (Q.MemRead v 0 (entrySize (fieldSize v)))) ∷ opened 0 ∷ sent (bytesOf (Q.MemRead v 1000 2)) ∷ byte 247 ∷ byte 248 ∷ closed 0 ∷ finished 3 2 ∷ []
+
+planned : (v : Width) → plain (two v) ≡ told v
 unfolding plain hosted hear reportsOf dump regions chunks chosen chunkOf wellFormed slotsGood verdictOf decodeOf classOf kinds kindOf bytesOf selected
     bytesAt fields le leBytes
-planned = refl
+planned WI.Bits32 = refl
+planned WI.Bits64 = refl
 
-pub mixed : (m : ℕ) → 1 ≤ m
-    → reports (calling byTurns) two (start (calling byTurns) two) (drive m 96)
-    ≡ sent (bytesOf (Q.MemRead64 0 64)) ∷ opened 0 ∷ sent (bytesOf (Q.MemRead64 1000 2)) ∷ byte 247 ∷ byte 248 ∷ closed 0 ∷ finished 3 2 ∷ []
-mixed m e =
-    fetch-raw byTurns two (dumps (debug 0 64) two-premises) (drive m 96) (drive-fair (calling byTurns) two m 96 (start (calling byTurns) two) e) .whole
-    (omega (arith, steps, drive-owns (calling byTurns) two m 96 (start (calling byTurns) two)))
-    ∙ planned
+pub mixed : (v : Width) (m : ℕ) → 1 ≤ m
+    → reports (calling byTurns) (two v) (start (calling byTurns) (two v)) (drive m (needed v)) ≡ told v
+mixed v m e =
+    let w = start (calling byTurns) (two v) in
+    fetch-raw byTurns (two v) (dumps (entriesAt v 1) (two-premises v)) (drive m (needed v)) (drive-fair (calling byTurns) (two v) m (needed v) w e) .whole
+    (omega (arith, steps v, drive-owns (calling byTurns) (two v) m (needed v) w))
+    ∙ planned v

@@ -7,6 +7,7 @@ use Prim.Native.Nat.{ℕ, _≤_}
 use native.Mathlib.Omega.{arith}
 use lib.ListN.{length, getD}
 use Rattle.base.proofs.Ranges.{by-test, by-then}
+use Rattle.field.specs.Field.{fieldSize}
 use Rattle.command.specs.Command.{modeNumber}
 use Rattle.verdict.specs.declared.Opening.{Opening}
 use Rattle.session.specs.declared.Phase.{Phase}
@@ -19,7 +20,7 @@ use Rattle.session.specs.Answers.{answerNumber, answerValues}
 use Rattle.session.specs.Step.{stepOf}
 use Rattle.steps.specs.Steps.{Throughout}
 use Rattle.raw.specs.declared.RawSession.{RawSession}
-use Rattle.raw.specs.Raw.{backendNumber, execNumber, isOpening, countsOf, rawOf, sessionOf, isSession, openedRaw, rawStepped}
+use Rattle.raw.specs.Raw.{backendNumber, execNumber, widthOf, isOpening, countsOf, rawOf, sessionOf, isSession, openedRaw, rawStepped}
 use Rattle.raw.proofs.Laws.{opening-back, session-is}
 use Rattle.raw_step.specs.RawStep.{rawOutcomeOf, stepRaw}
 use Rattle.raw_step.proofs.Laws.{step-told}
@@ -31,7 +32,7 @@ use Rattle.fetch.specs.Within.{Within, StepWithin, replyWithin}
 use Rattle.fetch.proofs.Theorem.{fetch, means}
 use Rattle.fetch.proofs.Within.{step-within, reply-within}
 use Rattle.fetch.proofs.Simulation.{Alike, demand-carried}
-use Rattle.fetch_raw.specs.Calls.{answerOf, Call, byValue, inPlace, calledOf, Called, openedCalls, givenRaw, calling}
+use Rattle.fetch_raw.specs.Calls.{answerOf, Call, byValue, inPlace, calledOf, Called, widthIn, openedCalls, givenRaw, calling}
 
 -- ---- what crosses is read back
 
@@ -102,9 +103,9 @@ module _ (choice : ℕ → Call) where
 -- ---- no number that crosses passes what was lent
 
 -- what a session's step keeps within, its numbers do
-told-within : (n : ℕ) (r : Outcome) (d set t y o : List ℕ) → Within (givenOf r) d set t y o → Within (givenRaw n (rawOutcomeOf r)) d set t y o
+told-within : (f n : ℕ) (r : Outcome) (d set t y o : List ℕ) → Within f (givenOf r) d set t y o → Within f (givenRaw n (rawOutcomeOf r)) d set t y o
 unfolding rawStepped
-told-within n r d set t y o x =
+told-within f n r d set t y o x =
     record {
       taken = x .taken;
       answer = rw (answer-back (r .stepped .answer)) (x .answer);
@@ -114,17 +115,18 @@ told-within n r d set t y o x =
     }
 
 -- of any numbers, a session's or not
-pub step-within-raw : (n : ℕ) (r : RawSession) (d set names t y o : List ℕ) → Within (givenRaw n (stepRaw r d set names t y o)) d set t y o
-unfolding stepRaw rawStepped
+pub step-within-raw : (n : ℕ) (r : RawSession) (d set names t y o : List ℕ)
+    → Within (fieldSize (widthOf (r .width))) (givenRaw n (stepRaw r d set names t y o)) d set t y o
+unfolding stepRaw rawStepped sessionOf
 step-within-raw n r d set names t y o =
     by-test (isSession r)
     (λ e.
-    rw e (told-within n (stepOf (sessionOf r) d set names t y o) d set t y o (step-within (sessionOf r) d set names t y o)))
+    rw e (told-within (fieldSize (widthOf (r .width))) n (stepOf (sessionOf r) d set names t y o) d set t y o (step-within (sessionOf r) d set names t y o)))
     (λ e. rw e (record { taken = omega arith; answer = tt; table = refl; reply = refl; out = refl }))
 
 -- in any list of calls, from any numbers, fair or not
 pub within-raw : (choice : ℕ → Call) (c : Setting) (w : World Called) (ls : List Lent)
-    → Throughout (next (calling choice) c) (StepWithin (calling choice) c) w ls
+    → Throughout (next (calling choice) c) (StepWithin (calling choice) widthIn c) w ls
 within-raw choice c w [] = tt
 within-raw choice c w (l ∷ ls) = (
   rw (call-is (choice (w .state .calls)) (w .state .numbers))

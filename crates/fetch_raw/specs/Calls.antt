@@ -5,12 +5,13 @@ use Prim.Native.Nat.{ℕ, suc}
 use mathlib.Core.List.{List, [], _∷_}
 use lib.Dec.{eqb}
 use Rattle.base.specs.Choice.{pick}
+use Rattle.field.specs.declared.Width.{Width}
 use Rattle.command.specs.Command.{modeNumber}
 use Rattle.verdict.specs.declared.Opening.{Opening}
 use Rattle.session.specs.declared.Answer.{Answer}
 use Rattle.session.specs.declared.Answer.the-variants as A
 use Rattle.raw.specs.declared.RawSession.{RawSession}
-use Rattle.raw.specs.Raw.{backendNumber, execNumber, openedRaw}
+use Rattle.raw.specs.Raw.{backendNumber, execNumber, widthOf, openedRaw}
 use Rattle.raw_step.specs.RawStep.{RawOutcome, rawAt, stepRaw}
 use Rattle.fetch.specs.Device.{Given, Host}
 
@@ -31,12 +32,12 @@ pub data Call : Type 0 where
   byValue : Call
   inPlace : Call
 
--- a session where it stands: mode, command, backend and phase; the eight large numbers
+-- a session where it stands: mode, command, backend and phase; the nine large numbers
 abbrev pub headOf : RawSession → List ℕ
 headOf r = r .mode ∷ r .command ∷ r .backend ∷ r .phase ∷ []
 
 abbrev pub numbersOf : RawSession → List ℕ
-numbersOf r = r .reads ∷ r .count ∷ r .at ∷ r .base ∷ r .len ∷ r .done ∷ r .outstanding ∷ r .due ∷ []
+numbersOf r = r .reads ∷ r .count ∷ r .at ∷ r .base ∷ r .len ∷ r .done ∷ r .outstanding ∷ r .due ∷ r .width ∷ []
 
 -- what a call gives: session, delivery, image set, names, table, reply and out buffers. In place, the numbers are laid out as arrays and read from there
 abbrev pub calledOf : Call → RawSession → List ℕ → List ℕ → List ℕ → List ℕ → List ℕ → List ℕ → RawOutcome
@@ -47,6 +48,10 @@ calledOf inPlace r d set names t y o = stepRaw (rawAt (headOf r) (numbersOf r) (
 pub record Called : Type 0 where
   pub numbers : RawSession
   pub calls : ℕ
+
+-- the width that its numbers tell
+abbrev pub widthIn : Called → Width
+widthIn k = widthOf (k .numbers .width)
 
 abbrev pub openedCalls : Opening → Called
 openedCalls u = record { numbers = openedRaw (modeNumber (u .mode)) (execNumber (u .command)) (backendNumber (u .backend)); calls = 0 }

@@ -173,16 +173,8 @@ pub fn step_in_place(
     let opening = raw::opening_of(head[MODE], head[COMMAND], head[BACKEND]);
     let width = raw::width_of(numbers[WIDTH]);
     let k = numbers[COUNT] as usize;
-    let a = advance_region(
-        width,
-        opening,
-        numbers[READS],
-        k,
-        x,
-        delivery.len(),
-        table,
-        out,
-    );
+    let came = delivery.len();
+    let a = advance_region(width, opening, numbers[READS], k, x, came, table, out);
     if let Advance::To(c) = a {
         let t = count(numbers, c);
         return placed(t, numbers);

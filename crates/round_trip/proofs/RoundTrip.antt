@@ -1,22 +1,23 @@
 -- Decoding what was built gives what was meant, for each built kind that is decoded and for all field values. The header and the small fields compute; the
 -- two numbers of a memory read are read back by the fields' law. Assumes nothing.
 use mathlib.Core.Path.{_≡_, refl}
-use mathlib.Core.List.{[], _++_}
 use Prim.Native.Nat.{ℕ, _^_, _<_}
-use Rattle.field.specs.Field.{le, leBytes}
-use Rattle.field.proofs.Laws.{le-of-bytes}
+use Rattle.field.specs.Field.{le, leBytes, fieldSize}
+use Rattle.field.specs.declared.Width.{Width}
+use Rattle.field.specs.declared.Width.the-variants as WI
 use Rattle.command.specs.Command.{modeOf, commandOf, kinds, classOf}
 use Rattle.command.specs.declared.SaharaMode.{SaharaMode}
 use Rattle.command.specs.declared.SaharaMode.the-variants as M
 use Rattle.command.specs.declared.SaharaCmdModeCmd.{SaharaCmdModeCmd}
 use Rattle.command.specs.declared.SaharaCmdModeCmd.the-variants as E
-use Rattle.packet.specs.Packet.{kindOf, decodeOf}
+use Rattle.packet.specs.Packet.{addressIn, lengthIn, kindOf, decodeOf}
 use Rattle.packet.specs.declared.SaharaPacketBody.{SaharaPacketBody}
 use Rattle.packet.specs.declared.SaharaPacketBody.the-variants as B
 use Rattle.packet.specs.declared.Decoded.{Decoded}
 use Rattle.packet.specs.declared.Decoded.the-variants as D
-use Rattle.build.specs.Build.{fields, bytesOf}
+use Rattle.build.specs.Build.{fields, bytesOf, sizeOf}
 use Rattle.build.specs.declared.Request.the-variants as Q
+use Rattle.build.proofs.RoundTrip.{mem-read-back}
 
 abbrev packet : ℕ → SaharaPacketBody → Decoded
 packet n b = D.Is (record { len = n; body = b })
@@ -49,12 +50,19 @@ execute-data E.ReadSerialNum = refl
 execute-data E.ReadHwId = refl
 execute-data E.ReadOemKeyHash = refl
 
--- an address and a length of 8 bytes each
-read-back : (a k : ℕ) → decodeOf (bytesOf (Q.MemRead64 a k))
-    ≡ packet 24 (B.ReadMem64Req (record { addr = le 8 (leBytes 8 a ++ (leBytes 8 k ++ [])); len = le 8 (leBytes 8 k ++ []) }))
-unfolding decodeOf kindOf classOf kinds bytesOf fields le leBytes
-read-back a k = refl
+-- an address and a length of 8 bytes each or, of an old board, of 4
+abbrev readBody : Width → ℕ → ℕ → SaharaPacketBody
+readBody WI.Bits32 a k = B.ReadMemReq (record { addr = a; len = k })
+readBody WI.Bits64 a k = B.ReadMem64Req (record { addr = a; len = k })
 
-pub mem-read64 : (a k : ℕ) → a < 256 ^ 8 → k < 256 ^ 8
-    → decodeOf (bytesOf (Q.MemRead64 a k)) ≡ packet 24 (B.ReadMem64Req (record { addr = a; len = k }))
-mem-read64 a k ha hk = rw (read-back a k, le-of-bytes 8 a (leBytes 8 k ++ []) ha, le-of-bytes 8 k [] hk) refl
+read-decoded : (v : Width) (a k : ℕ)
+    → decodeOf (bytesOf (Q.MemRead v a k))
+    ≡ packet (sizeOf (Q.MemRead v a k))
+    (readBody v (addressIn (fieldSize v) (bytesOf (Q.MemRead v a k))) (lengthIn (fieldSize v) (bytesOf (Q.MemRead v a k))))
+unfolding decodeOf kindOf classOf kinds bytesOf fields le leBytes
+read-decoded WI.Bits32 a k = refl
+read-decoded WI.Bits64 a k = refl
+
+pub mem-read : (v : Width) (a k : ℕ) → a < 256 ^ fieldSize v → k < 256 ^ fieldSize v
+    → decodeOf (bytesOf (Q.MemRead v a k)) ≡ packet (sizeOf (Q.MemRead v a k)) (readBody v a k)
+mem-read v a k ha hk = let b = mem-read-back v a k ha hk in rw (read-decoded v a k, b .2, b .3) refl
