@@ -120,7 +120,7 @@ impl Host {
             2 => What::Image { start: first, bytes: part(lent.set, first, second).to_vec() },
             3 => {
                 self.opens.push(first);
-                let e = raw::entry_at(part(&lent.table, 0, r.session.count), first);
+                let e = raw::entry_at(part(&lent.table, 0, r.session.count), r.session.width, first);
                 What::Open { len: e.len, name: (e.there == 1).then_some(e.filename) }
             }
             4 => {

@@ -1,8 +1,7 @@
 //! The original's run in the lines of the program `runs`: its events, cut at the borders of deliveries of one size.
 use crate::events::{hex, End, Event, What};
 use crate::original::Original;
-use crate::packets::mem_read;
-use crate::talk::long;
+use crate::packets::{mem_read, parts, Width};
 
 struct Lines {
     size: usize,
@@ -69,7 +68,8 @@ pub fn lines(o: &Original, size: usize, opens: Option<&[usize]>) -> Option<Vec<S
                 "go 0".into()
             }
             What::Open { len, name } => {
-                let entry = entry(table, opened.last().map_or(0, |n| n + 1), *len, *name, o.steps.get(i + 1));
+                let from = opened.last().map_or(0, |n| n + 1);
+                let entry = entry(o.width, table, from, *len, *name, o.steps.get(i + 1));
                 opened.push(entry.settled(opens.map(|o| o.get(opened.len()).copied()))?);
                 format!("open {}", opened.last()?)
             }
@@ -100,14 +100,15 @@ impl Fit {
 }
 
 /// The entries at or after `from` of this length, filename and, by the region's first memory read, base.
-fn entry(table: &[u8], from: usize, len: u64, name: Option<[u8; 20]>, after: Option<&Event>) -> Fit {
+fn entry(width: Width, table: &[u8], from: usize, len: u64, name: Option<[u8; 20]>, after: Option<&Event>) -> Fit {
     let base = match after {
         Some(Event { what: What::Sent(b), .. }) => mem_read(b).map(|r| r.0),
         _ => None,
     };
+    let size = width.entry_len();
     let fits = |i: &usize| {
-        let e = &table[64 * i..64 * i + 64];
-        long(e, 16) == len && name.is_none_or(|n| n[..] == e[44..64]) && base.is_none_or(|b| b == long(e, 8))
+        let e = parts(width, &table[size * i..size * (i + 1)]);
+        e.1 == len && name.is_none_or(|n| n == e.2) && base.is_none_or(|b| b == e.0)
     };
-    Fit((from..table.len() / 64).filter(fits).collect())
+    Fit((from..table.len() / size).filter(fits).collect())
 }

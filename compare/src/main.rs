@@ -8,6 +8,7 @@ mod judge;
 mod leaves;
 mod lines;
 mod mode_one;
+mod narrow;
 mod original;
 mod packets;
 mod random;
@@ -39,6 +40,8 @@ struct Comparison {
     /// The kinds in the order in which they came.
     order: Vec<&'static str>,
     ends: BTreeMap<String, u64>,
+    /// Of those of 32 bits that the original's run tells all of.
+    narrow_ends: BTreeMap<String, u64>,
     named: BTreeMap<&'static str, u64>,
     lines: u64,
     differ: u64,
@@ -57,14 +60,14 @@ struct Lent<'a> {
 enum Met {
     /// inside the domain
     Inside,
-    /// mode 1 has a part in it
-    ModeOne,
+    /// mode 1 or a board of 32 bits has a part in it
+    Measured,
     /// outside by another difference, or it differs
     Outside,
 }
 
 impl Comparison {
-    /// A conversation, and one of eight again with mode 1 in it. Gives all bytes that the device queued.
+    /// A conversation, and one of eight again with mode 1 in it, another one of eight with a board of 32 bits. Gives all bytes that the device queued.
     fn compare(&mut self, t: &Talk) -> Vec<u8> {
         let (o, met) = self.converse(t);
         if met == Met::Inside {
@@ -78,13 +81,25 @@ impl Comparison {
         if n % 8 == 0 {
             self.converse(&mode_one::with(t, n / 8));
         }
+        if n % 8 == 4 {
+            self.compare_narrow(t, n);
+        }
         o.fed
+    }
+
+    /// With a board of 32 bits, and some of these with mode 1 too.
+    fn compare_narrow(&mut self, t: &Talk, n: u64) {
+        let Some(board) = narrow::with(t) else { return };
+        self.converse(&board);
+        if n % 32 == 4 {
+            self.converse(&mode_one::with(&board, n / 32));
+        }
     }
 
     fn converse(&mut self, t: &Talk) -> (Original, Met) {
         let (set, names) = (t.image_set(), t.name_list());
         let lent = Lent { talk: t, set: &set.bytes, names: &names.bytes };
-        let (o, one) = mode_one::run(t, &set);
+        let (o, one, narrow) = mode_one::run(t, &set);
         if !self.kinds.contains_key(t.kind) {
             self.order.push(t.kind);
         }
@@ -93,14 +108,17 @@ impl Comparison {
         if same {
             self.cut(&lent, &o);
         }
-        let met = match (one, same) {
-            (true, _) => Met::ModeOne,
+        for (id, met) in [("mode-1", one), ("memory-32", narrow)] {
+            *self.named.entry(id).or_default() += u64::from(met);
+        }
+        if narrow && same {
+            *self.narrow_ends.entry(events::name_of(&o.ran.end)).or_default() += 1;
+        }
+        let met = match (one || narrow, same) {
+            (true, _) => Met::Measured,
             (false, true) => Met::Inside,
             (false, false) => Met::Outside,
         };
-        if met == Met::ModeOne {
-            *self.named.entry("mode-1").or_default() += 1;
-        }
         (o, met)
     }
 
@@ -173,6 +191,7 @@ impl Comparison {
             generate::ranges,
             generate::chunks,
             generate::tables,
+            generate::narrow,
             generate::filenames,
         ];
         for family in families {
@@ -206,12 +225,12 @@ impl Comparison {
         let (run, inside) = self.kinds.values().fold((0, 0), |a, k| (a.0 + k.run, a.1 + k.inside));
         println!("  {run:>9} run, {inside:>6} inside the domain, {} differ", self.differ);
         println!(
-            "  those inside and those of mode 1 ran again with deliveries cut at random, as wanted, and at one size ({} lines)",
+            "  those inside, of mode 1 and of 32 bits ran again with deliveries cut at random, as wanted, and at one size ({} lines)",
             self.lines
         );
-        println!("ends of those inside");
-        for (end, n) in &self.ends {
-            println!("  {n:>9} {end}");
+        for (which, ends) in [("inside", &self.ends), ("of 32 bits", &self.narrow_ends)] {
+            println!("ends of those {which}");
+            ends.iter().for_each(|(end, n)| println!("  {n:>9} {end}"));
         }
     }
 }

@@ -1,7 +1,8 @@
 //! Mode 1, which the original does not have. By document 02 it is a mode like the others, so what is wanted is the original's run with mode 0 in its
 //! place, where it would refuse a hello of mode 1 or cannot be opened in it; only the answers of a session of mode 1 have 1 and not 0.
 use crate::events::{End, Event, What};
-use crate::original::{self, Original, Reads};
+use crate::narrow;
+use crate::original::Original;
 use crate::talk::{command_of, word, Bundle, Talk};
 
 /// Where a hello and its response have their mode.
@@ -30,17 +31,17 @@ pub fn says(packet: &[u8]) -> bool {
     packet.len() >= WHOLE && matches!(command_of(packet), 1 | 2) && word(packet, AT) == 1
 }
 
-/// The original's run, and whether mode 1 had a part in it.
-pub fn run(t: &Talk, set: &Bundle) -> (Original, bool) {
+/// The original's run, and what had a part in it: mode 1, a packet of 32 bits.
+pub fn run(t: &Talk, set: &Bundle) -> (Original, bool, bool) {
     let opened = t.mode == 1;
     let mut other = Talk { mode: if opened { 0 } else { t.mode }, ..t.clone() };
     let mut places = Vec::new();
-    let mut o = original::run(&other, set, Reads::Full);
+    let (mut o, mut narrow) = narrow::run(&other, set);
     while o.ran.end == End::Refused(9) && says(o.last_packet()) {
         let place = o.packet.0 + AT;
         other.opening[place] = 0;
         places.push(place);
-        o = original::run(&other, set, Reads::Full);
+        (o, narrow) = narrow::run(&other, set);
     }
     for place in &places {
         o.fed[*place] = 1;
@@ -48,7 +49,7 @@ pub fn run(t: &Talk, set: &Bundle) -> (Original, bool) {
     if opened {
         o.ran.events.iter_mut().chain(&mut o.steps).for_each(answer_in_mode_one);
     }
-    (o, opened || !places.is_empty())
+    (o, opened || !places.is_empty(), narrow)
 }
 
 fn answer_in_mode_one(e: &mut Event) {

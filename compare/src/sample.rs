@@ -48,8 +48,8 @@ impl Sample {
     }
 
     fn add(&mut self, t: &Talk, size: usize, parts: [&[u8]; 3], told: Vec<String>) {
-        // out, table and reply buffers of these lengths
-        let head = [t.mode, t.command.unwrap_or(4), t.usb as u32, size as u32, 48, 65_536, 8_192];
+        // out, table and reply buffers of these lengths; the session is as opened
+        let head = [t.mode, t.command.unwrap_or(4), t.usb as u32, size as u32, 48, 65_536, 8_192, 0, 0];
         for v in head.into_iter().chain(parts.map(|p| p.len() as u32)) {
             self.given.extend(v.to_le_bytes());
         }

@@ -1,6 +1,6 @@
 //! A conversation: how the host is opened, what it is lent, and the device.
 use crate::random::Draws;
-use device::{Memory, Rng, Tape};
+use device::{Memory, Rng, Tape, Width};
 
 #[derive(Clone)]
 pub struct Talk {
@@ -25,11 +25,13 @@ pub struct Live {
     pub seed: u64,
     /// Memory reads that are answered before the device falls silent.
     pub answers: usize,
+    /// What the first of them is answered with, before these, in the place of the memory's bytes.
+    pub first: Option<Vec<u8>>,
 }
 
 impl Live {
-    pub fn new(seed: u64, table_at: u64, table: Vec<u8>, answers: usize) -> Self {
-        Live { memory: Memory::mixed(seed, table_at, table), seed, answers }
+    pub fn new(width: Width, seed: u64, table_at: u64, table: Vec<u8>, answers: usize) -> Self {
+        Live { memory: Memory::mixed(seed, table_at, table).wide(width), seed, answers, first: None }
     }
 }
 

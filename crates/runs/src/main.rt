@@ -1,13 +1,18 @@
 // Replays conversations from standard input and prints a line a step: bytes taken, answer, number, and what else the answer tells.
-// A conversation is ten words (mode, command or 4, backend, delivery size, sizes of the out, table and reply buffers, lengths of the image set, the names
-// and the device's bytes) and these three.
+// A conversation is twelve words (mode, command or 4, backend, delivery size, sizes of the out, table and reply buffers, lengths of the session, of what the
+// table and reply buffers begin with, of the image set, the names and the device's bytes) and these five. A session of no bytes is one as opened. Else
+// the buffers hold zeros behind what they begin with, and a last line tells the session; of fewer than 80 bytes it is as opened too, of others made up: ten numbers
+// of 8 bytes (phase, width, memory reads; count, at, base, len, done, outstanding, due, as they cross to C) and the window.
 use command::CommandOf;
 use command::ModeOf;
 use command::SaharaMode;
 use feed::Feed;
 use feed::Turned;
+use field::Width;
 use session::Answer;
+use session::Filling;
 use session::Phase;
+use session::Region;
 use session::Session;
 use verdict::ExecCommand;
 use verdict::QdlBackend;
@@ -16,6 +21,7 @@ ghost use Prim.Native.Nat.{_+_, _≤_, _<_};
 ghost use lib.ListN.{length};
 ghost use Rattle.runs.specs.Case.{Placed};
 
+// What the words say; the session begins at 0, each other part where the one before it ends.
 struct Case {
     mode: u32,
     command: u32,
@@ -24,6 +30,7 @@ struct Case {
     out: usize,
     table: usize,
     reply: usize,
+    lent: usize,
     set: usize,
     names: usize,
     feed: usize,
@@ -40,32 +47,33 @@ fn word(input: &[u8], at: usize) -> u32 {
     field::u32_padded(input, at)
 }
 
-// A length at a place, at most what is left.
-fn part(input: &[u8], at: usize, from: usize) -> usize
-    requires { ⌜ from ≤ length (now input) ⌝ }
-    ensures { λ r. ⌜ from + r ≤ length (now (input .entry)) ⌝ }
+// The length at a place of the words, at most what is left.
+fn part(words: &[u8], at: usize, from: usize, most: usize) -> usize
+    requires { ⌜ from ≤ most ⌝ }
+    ensures { λ r. ⌜ from + r ≤ most ⌝ }
 {
-    let n = word(input, at) as usize;
-    least(n, input.len() - from)
+    let n = word(words, at) as usize;
+    least(n, most - from)
 }
 
-// The case whose words begin at a place.
-fn case_at(input: &[u8], at: usize) -> Case
-    requires { ⌜ at + 40 ≤ length (now input) ⌝ }
-    ensures { λ r. ⌜ Placed (at + 40) (r .set) (r .names) (r .feed) (r .end) (length (now (input .entry))) ⌝ }
+// The case that begins with these words, its parts within so many bytes.
+fn case_of(words: &[u8], most: usize) -> Case
+    ensures { λ r. ⌜ Placed (r .lent) (r .set) (r .names) (r .feed) (r .end) most ⌝ }
 {
-    let set = at + 40;
-    let names = set + part(input, at + 28, set);
-    let feed = names + part(input, at + 32, names);
-    let end = feed + part(input, at + 36, feed);
+    let lent = part(words, 28, 0, most);
+    let set = lent + part(words, 32, lent, most);
+    let names = set + part(words, 36, set, most);
+    let feed = names + part(words, 40, names, most);
+    let end = feed + part(words, 44, feed, most);
     Case {
-        mode: word(input, at),
-        command: word(input, at + 4),
-        backend: word(input, at + 8),
-        size: word(input, at + 12) as usize,
-        out: word(input, at + 16) as usize,
-        table: word(input, at + 20) as usize,
-        reply: word(input, at + 24) as usize,
+        mode: word(words, 0),
+        command: word(words, 4),
+        backend: word(words, 8),
+        size: word(words, 12) as usize,
+        out: word(words, 16) as usize,
+        table: word(words, 20) as usize,
+        reply: word(words, 24) as usize,
+        lent: lent,
         set: set,
         names: names,
         feed: feed,
@@ -92,6 +100,92 @@ fn backend_for(n: u32) -> QdlBackend {
         return QdlBackend::Serial;
     }
     QdlBackend::Usb
+}
+
+fn long(s: &[u8], at: usize) -> u64 {
+    field::u64_padded(s, at)
+}
+
+fn width_for(n: u64) -> Width {
+    if n == 32 {
+        return Width::Bits32;
+    }
+    Width::Bits64
+}
+
+fn filling_for(s: &[u8]) -> Filling {
+    Filling {
+        declared: long(s, 24) as usize,
+        filled: long(s, 32) as usize,
+    }
+}
+
+fn region_for(s: &[u8]) -> Region {
+    Region {
+        entry: long(s, 32) as usize,
+        base: long(s, 40),
+        len: long(s, 48),
+        done: long(s, 56),
+        outstanding: long(s, 64),
+        due: long(s, 72) != 0,
+    }
+}
+
+fn phase_for(s: &[u8]) -> Phase {
+    let count = long(s, 24) as usize;
+    match long(s, 0) {
+        0 => Phase::Packet(count),
+        1 => Phase::Response(filling_for(s)),
+        2 => Phase::Switched(count),
+        3 => Phase::Table(filling_for(s)),
+        4 => Phase::Between(count, long(s, 32) as usize),
+        5 => Phase::Region(count, region_for(s)),
+        _ => Phase::Ended(count),
+    }
+}
+
+fn byte_or_zero(s: &[u8], i: usize) -> u8 {
+    if i < s.len() { s[i] } else { 0 }
+}
+
+// The bytes of s, and zeros behind them.
+fn fill(d: &mut [u8], s: &[u8]) {
+    let mut i: usize = 0;
+    while i < d.len() {
+        d[i] = byte_or_zero(s, i);
+        i += 1;
+    }
+}
+
+fn window_for(s: &[u8]) -> [u8; 48]
+    requires { ⌜ 80 ≤ length (now s) ⌝ }
+{
+    let mut w = [0u8; 48];
+    fill(&mut w, &s[80..]);
+    w
+}
+
+// A made-up session, opened like this one.
+fn session_for(opened: Session, s: &[u8]) -> Session {
+    if s.len() < 80 {
+        return opened;
+    }
+    let opening = opened.opening;
+    Session {
+        opening: opening,
+        reads: long(s, 16),
+        width: width_for(long(s, 8)),
+        window: window_for(s),
+        phase: phase_for(s),
+    }
+}
+
+fn open_for(c: Case) -> Session {
+    host::open(
+        mode_for(c.mode),
+        command_for(c.command),
+        backend_for(c.backend),
+    )
 }
 
 fn digit(n: u8) -> u8 {
@@ -210,6 +304,58 @@ fn replied(a: Answer, p: Phase, reply: &[u8]) {
     }
 }
 
+fn number(n: u64) {
+    io::write_all(1, b" ");
+    io::print_decimal(1, n);
+}
+
+fn bits(w: Width) -> u64 {
+    match w {
+        Width::Bits32 => 32,
+        Width::Bits64 => 64,
+    }
+}
+
+fn counts(phase: u64, w: Width, reads: u64, count: usize, at: usize) {
+    io::write_all(1, b"session");
+    number(phase);
+    number(bits(w));
+    number(reads);
+    number(count as u64);
+    number(at as u64);
+}
+
+fn told_counts(phase: u64, w: Width, reads: u64, count: usize, at: usize) {
+    counts(phase, w, reads, count, at);
+    io::write_all(1, b" 0 0 0 0 0\n");
+}
+
+fn told_region(w: Width, reads: u64, count: usize, x: Region) {
+    counts(5, w, reads, count, x.entry);
+    number(x.base);
+    number(x.len);
+    number(x.done);
+    number(x.outstanding);
+    number(if x.due { 1 } else { 0 });
+    io::write_all(1, b"\n");
+}
+
+// A session as numbers; those that its phase does not use are 0.
+fn told_session(s: Session) {
+    let w = s.width;
+    let reads = s.reads;
+    let p = s.phase;
+    match p {
+        Phase::Packet(k) => told_counts(0, w, reads, k, 0),
+        Phase::Response(x) => told_counts(1, w, reads, x.declared, x.filled),
+        Phase::Switched(k) => told_counts(2, w, reads, k, 0),
+        Phase::Table(x) => told_counts(3, w, reads, x.declared, x.filled),
+        Phase::Between(k, i) => told_counts(4, w, reads, k, i),
+        Phase::Region(k, x) => told_region(w, reads, k, x),
+        Phase::Ended(k) => told_counts(6, w, reads, k, 0),
+    }
+}
+
 // The next delivery, where this one is used up.
 fn refill(f: Feed, size: usize, end: usize) -> Feed
     requires { ⌜ (f .from ≤ f .to) × (f .to ≤ end) ⌝ }
@@ -230,11 +376,12 @@ fn closed(s: Session, f: Feed) -> Turned
     ensures { λ r. ⌜ (r .feed .from ≡ f .from) × (r .feed .to ≡ f .to) ⌝ }
 {
     let r = host::closed(s);
+    let next = r.session;
     let a = r.answer;
     told(0, a, b"", b"");
     io::write_all(1, b"\n");
     Turned {
-        session: s,
+        session: next,
         feed: f,
         more: false,
     }
@@ -288,7 +435,7 @@ fn turn_or_close(
     turn(s, f, delivery, set, names, table, reply, out)
 }
 
-// One conversation: deliveries of at most `size` of the device's bytes.
+// One conversation: deliveries of at most `size` of the device's bytes. The session at its end.
 fn run(
     first: Session,
     size: usize,
@@ -298,7 +445,7 @@ fn run(
     table: &mut [u8],
     reply: &mut [u8],
     out: &mut [u8],
-) {
+) -> Session {
     let mut s = first;
     let mut f = feed::begin();
     let mut turns: u64 = 0;
@@ -308,33 +455,56 @@ fn run(
         let from = fed.from;
         let to = fed.to;
         let t = turn_or_close(s, fed, &feed[from..to], set, names, table, reply, out);
+        s = t.session;
         if !t.more {
-            return;
+            return s;
         }
         f = t.feed;
-        s = t.session;
     }
+    s
+}
+
+// One conversation. The session is told at its end where the case has one.
+fn play(
+    opened: Session,
+    size: usize,
+    session: &[u8],
+    lent: &[u8],
+    feed: &[u8],
+    set: &[u8],
+    names: &[u8],
+    table: &mut [u8],
+    reply: &mut [u8],
+    out: &mut [u8],
+) {
+    if session.len() == 0 {
+        run(opened, size, feed, set, names, table, reply, out);
+        return;
+    }
+    fill(table, lent);
+    fill(reply, lent);
+    let s = session_for(opened, session);
+    let last = run(s, size, feed, set, names, table, reply, out);
+    told_session(last);
 }
 
 // One conversation, with buffers of the sizes that it asks for.
 fn replay(input: &[u8], c: Case, table: &mut [u8], reply: &mut [u8], out: &mut [u8])
-    requires { ⌜ Placed 0 (c .set) (c .names) (c .feed) (c .end) (length (now input)) ⌝ }
+    requires { ⌜ Placed (c .lent) (c .set) (c .names) (c .feed) (c .end) (length (now input)) ⌝ }
 {
     let t = least(c.table, table.len());
     let y = least(c.reply, reply.len());
     let o = least(c.out, out.len());
+    let lent = c.lent;
     let set = c.set;
     let names = c.names;
     let feed = c.feed;
     let end = c.end;
-    let s = host::open(
-        mode_for(c.mode),
-        command_for(c.command),
-        backend_for(c.backend),
-    );
-    run(
-        s,
+    play(
+        open_for(c),
         c.size,
+        &input[..lent],
+        &input[lent..set],
         &input[feed..end],
         &input[set..names],
         &input[names..feed],
@@ -344,26 +514,50 @@ fn replay(input: &[u8], c: Case, table: &mut [u8], reply: &mut [u8], out: &mut [
     );
 }
 
-fn all(input: &[u8], table: &mut [u8], reply: &mut [u8], out: &mut [u8]) {
-    let mut at: usize = 0;
-    while at < input.len() {
-        if input.len() - at < 40 {
+// An empty line between two cases.
+fn gap(cases: u64) {
+    if 0 < cases {
+        io::write_all(1, b"\n");
+    }
+}
+
+// The next case: its words are read, then its parts. False where there is none.
+fn next(
+    cases: u64,
+    words: &mut [u8],
+    input: &mut [u8],
+    table: &mut [u8],
+    reply: &mut [u8],
+    out: &mut [u8],
+) -> bool {
+    if io::read_full(0, words) < words.len() {
+        return false;
+    }
+    gap(cases);
+    let c = case_of(words, input.len());
+    let end = c.end;
+    if io::read_full(0, &mut input[..end]) < end {
+        return false;
+    }
+    replay(input, c, table, reply, out);
+    true
+}
+
+fn all(words: &mut [u8], input: &mut [u8], table: &mut [u8], reply: &mut [u8], out: &mut [u8]) {
+    let mut cases: u64 = 0;
+    while cases < 1000000000 {
+        if !next(cases, words, input, table, reply, out) {
             return;
         }
-        if 0 < at {
-            io::write_all(1, b"\n");
-        }
-        let c = case_at(input, at);
-        replay(input, c, table, reply, out);
-        at = c.end;
+        cases += 1;
     }
 }
 
 fn main() {
-    let mut input = [0u8; 524288];
+    let mut words = [0u8; 48];
+    let mut input = [0u8; 131072];
     let mut table = [0u8; 65536];
     let mut reply = [0u8; 8192];
     let mut out = [0u8; 64];
-    let n = io::read_full(0, &mut input);
-    all(&input[..n], &mut table, &mut reply, &mut out);
+    all(&mut words, &mut input, &mut table, &mut reply, &mut out);
 }

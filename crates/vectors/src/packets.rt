@@ -12,6 +12,7 @@ use command::command_of;
 use command::kind_number;
 use command::mode_number;
 use command::mode_of;
+use field::Width;
 use packet::Decoded;
 use packet::ExecData;
 use packet::ExecResp;
@@ -33,6 +34,8 @@ fn kind_of(body: SaharaPacketBody) -> SaharaCmd {
         SaharaPacketBody::DoneReq => SaharaCmd::Done,
         SaharaPacketBody::DoneResp(_) => SaharaCmd::DoneResp,
         SaharaPacketBody::ResetResp => SaharaCmd::ResetResp,
+        SaharaPacketBody::DebugReq(_) => SaharaCmd::MemDebug,
+        SaharaPacketBody::ReadMemReq(_) => SaharaCmd::MemRead,
         SaharaPacketBody::CommandReady => SaharaCmd::CommandReady,
         SaharaPacketBody::ExecResp(_) => SaharaCmd::ExecuteResp,
         SaharaPacketBody::ExecData(_) => SaharaCmd::ExecuteData,
@@ -80,13 +83,12 @@ fn fields(body: SaharaPacketBody) {
         SaharaPacketBody::HelloReq(h) => hello_req(h),
         SaharaPacketBody::HelloResp(h) => hello_resp(h),
         SaharaPacketBody::ReadReq(r) => show::three_words(r.image, r.offset, r.len),
-        SaharaPacketBody::Eoi(e) => {
-            show::word(e.image);
-            show::word(e.status);
-        }
+        SaharaPacketBody::Eoi(e) => show::two_words(e.image, e.status),
         SaharaPacketBody::DoneReq => {}
         SaharaPacketBody::DoneResp(d) => show::word(d.status),
         SaharaPacketBody::ResetResp => {}
+        SaharaPacketBody::DebugReq(d) => show::two_words(d.addr, d.len),
+        SaharaPacketBody::ReadMemReq(r) => show::two_words(r.addr, r.len),
         SaharaPacketBody::CommandReady => {}
         SaharaPacketBody::ExecResp(e) => exec_resp(e),
         SaharaPacketBody::ExecData(e) => exec_data(e),
@@ -160,10 +162,10 @@ fn build_execute_data(line: &[u8], out: &mut [u8]) {
     }
 }
 
-fn build_mem_read64(line: &[u8], out: &mut [u8]) {
+fn build_mem_read(line: &[u8], out: &mut [u8], width: Width) {
     let addr = text::long(line, 3);
     let len = text::long(line, 4);
-    built(out, Request::MemRead64(addr, len));
+    built(out, Request::MemRead(width, addr, len));
 }
 
 fn build_into(line: &[u8], out: &mut [u8]) {
@@ -171,10 +173,11 @@ fn build_into(line: &[u8], out: &mut [u8]) {
         2 => build_hello(line, out),
         5 => built(out, Request::Done),
         7 => built(out, Request::Reset),
+        0x0a => build_mem_read(line, out, Width::Bits32),
         0x0c => built(out, Request::SwitchMode),
         0x0d => build_execute(line, out),
         0x0f => build_execute_data(line, out),
-        0x11 => build_mem_read64(line, out),
+        0x11 => build_mem_read(line, out, Width::Bits64),
         _ => show::nothing(),
     }
 }

@@ -3,6 +3,7 @@ use crate::show;
 use crate::text;
 use entry::RamdumpTable64;
 use entry::entry_at;
+use field::Width;
 use filename::NameCheck;
 use filename::check_after_open;
 use filename::check_open;
@@ -70,12 +71,20 @@ fn entry(e: RamdumpTable64) {
     texts(e);
 }
 
-// e TABLE INDEX
+// The width of a table's numbers, in bits.
+fn width(line: &[u8]) -> Width {
+    if text::number(line, 1) == 32 {
+        return Width::Bits32;
+    }
+    Width::Bits64
+}
+
+// e WIDTH TABLE INDEX
 pub(crate) fn decode_entry(line: &[u8]) {
     let mut table = [0u8; 1024];
-    let n = text::bytes(line, 1, &mut table);
-    let i = text::index(line, 2);
-    let r = entry_at(&table[..n], i);
+    let n = text::bytes(line, 2, &mut table);
+    let i = text::index(line, 3);
+    let r = entry_at(&table[..n], width(line), i);
     let e = r.entry;
     if r.there {
         entry(e);
@@ -84,23 +93,23 @@ pub(crate) fn decode_entry(line: &[u8]) {
     show::text(b"none");
 }
 
-// x TABLE INDEX NAMES
+// x WIDTH TABLE INDEX NAMES
 pub(crate) fn selected(line: &[u8]) {
     let mut table = [0u8; 1024];
     let mut names = [0u8; 1024];
-    let n = text::bytes(line, 1, &mut table);
-    let i = text::index(line, 2);
-    let m = text::bytes(line, 3, &mut names);
-    show::flag(is_selected(&table[..n], i, &names[..m]));
+    let n = text::bytes(line, 2, &mut table);
+    let i = text::index(line, 3);
+    let m = text::bytes(line, 4, &mut names);
+    show::flag(is_selected(&table[..n], width(line), i, &names[..m]));
 }
 
-// y TABLE ENTRIES NAMES FROM
+// y WIDTH TABLE ENTRIES NAMES FROM
 pub(crate) fn next(line: &[u8]) {
     let mut table = [0u8; 1024];
     let mut names = [0u8; 1024];
-    let n = text::bytes(line, 1, &mut table);
-    let entries = text::index(line, 2);
-    let m = text::bytes(line, 3, &mut names);
-    let from = text::index(line, 4);
-    show::number(next_selected(&table[..n], entries, &names[..m], from));
+    let n = text::bytes(line, 2, &mut table);
+    let entries = text::index(line, 3);
+    let m = text::bytes(line, 4, &mut names);
+    let from = text::index(line, 5);
+    show::number(next_selected(&table[..n], width(line), entries, &names[..m], from));
 }

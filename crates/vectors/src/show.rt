@@ -45,6 +45,11 @@ pub(crate) fn word(v: u32) {
     long(v as u64);
 }
 
+pub(crate) fn two_words(a: u32, b: u32) {
+    word(a);
+    word(b);
+}
+
 pub(crate) fn three_words(a: u32, b: u32, c: u32) {
     word(a);
     word(b);

@@ -15,65 +15,68 @@ least-requires-2 c κs = search needs
 least-requires-3 : tie.Need-least-requires-3
 least-requires-3 c κs = search needs
 
-mode-for-requires : tie.Need-mode-for-requires
-mode-for-requires c κs = search needs
+open-for-requires : tie.Need-open-for-requires
+open-for-requires c κs = search needs
 
-command-for-requires : tie.Need-command-for-requires
-command-for-requires c κs = search needs
+slice-aggregate-play : tie.Need-slice-aggregate-play
+slice-aggregate-play c = sym (length-take-le _ _ (omega arith))
 
-backend-for-requires : tie.Need-backend-for-requires
-backend-for-requires c κs = search needs
+sub-play : tie.Need-sub-play
+sub-play c = search needs
 
-open-requires : tie.Need-open-requires
-open-requires c κs = search needs
+part-play-start : tie.Need-part-play-start
+part-play-start c = search needs
 
-sub-run : tie.Need-sub-run
-sub-run c = search needs
+part-play-end : tie.Need-part-play-end
+part-play-end c = search needs
 
-part-run-start : tie.Need-part-run-start
-part-run-start c = search needs
+sub-play-2 : tie.Need-sub-play-2
+sub-play-2 c = search needs
 
-part-run-end : tie.Need-part-run-end
-part-run-end c = search needs
+part-play-start-2 : tie.Need-part-play-start-2
+part-play-start-2 c = search needs
 
-sub-run-2 : tie.Need-sub-run-2
-sub-run-2 c = search needs
+part-play-end-2 : tie.Need-part-play-end-2
+part-play-end-2 c = search needs
 
-part-run-start-2 : tie.Need-part-run-start-2
-part-run-start-2 c = search needs
+sub-play-3 : tie.Need-sub-play-3
+sub-play-3 c = search needs
 
-part-run-end-2 : tie.Need-part-run-end-2
-part-run-end-2 c = search needs
+part-play-start-3 : tie.Need-part-play-start-3
+part-play-start-3 c = search needs
 
-sub-run-3 : tie.Need-sub-run-3
-sub-run-3 c = search needs
+part-play-end-3 : tie.Need-part-play-end-3
+part-play-end-3 c = search needs
 
-part-run-start-3 : tie.Need-part-run-start-3
-part-run-start-3 c = search needs
+sub-play-4 : tie.Need-sub-play-4
+sub-play-4 c = search needs
 
-part-run-end-3 : tie.Need-part-run-end-3
-part-run-end-3 c = search needs
+part-play-start-4 : tie.Need-part-play-start-4
+part-play-start-4 c = search needs
 
-slice-relend-prefix-run : tie.Need-slice-relend-prefix-run
-slice-relend-prefix-run c = search needs
+part-play-end-4 : tie.Need-part-play-end-4
+part-play-end-4 c = search needs
 
-slice-aggregate-run : tie.Need-slice-aggregate-run
-slice-aggregate-run c = sym (length-take-le _ _ (omega arith))
+slice-relend-prefix-play : tie.Need-slice-relend-prefix-play
+slice-relend-prefix-play c = search needs
 
-slice-relend-prefix-run-2 : tie.Need-slice-relend-prefix-run-2
-slice-relend-prefix-run-2 c = search needs
+slice-aggregate-play-2 : tie.Need-slice-aggregate-play-2
+slice-aggregate-play-2 c = sym (length-take-le _ _ (omega arith))
 
-slice-aggregate-run-2 : tie.Need-slice-aggregate-run-2
-slice-aggregate-run-2 c = sym (length-take-le _ _ (omega arith))
+slice-relend-prefix-play-2 : tie.Need-slice-relend-prefix-play-2
+slice-relend-prefix-play-2 c = search needs
 
-slice-relend-prefix-run-3 : tie.Need-slice-relend-prefix-run-3
-slice-relend-prefix-run-3 c = search needs
+slice-aggregate-play-3 : tie.Need-slice-aggregate-play-3
+slice-aggregate-play-3 c = sym (length-take-le _ _ (omega arith))
 
-slice-aggregate-run-3 : tie.Need-slice-aggregate-run-3
-slice-aggregate-run-3 c = sym (length-take-le _ _ (omega arith))
+slice-relend-prefix-play-3 : tie.Need-slice-relend-prefix-play-3
+slice-relend-prefix-play-3 c = search needs
 
-run-requires : tie.Need-run-requires
-run-requires c κs = search needs
+slice-aggregate-play-4 : tie.Need-slice-aggregate-play-4
+slice-aggregate-play-4 c = sym (length-take-le _ _ (omega arith))
+
+play-requires : tie.Need-play-requires
+play-requires c κs = search needs
 
 same-length : tie.Need-same-length
 same-length c = search needs
@@ -94,26 +97,27 @@ replay-spec =
     least-requires
     least-requires-2
     least-requires-3
-    mode-for-requires
-    command-for-requires
-    backend-for-requires
-    open-requires
-    sub-run
-    part-run-start
-    part-run-end
-    sub-run-2
-    part-run-start-2
-    part-run-end-2
-    sub-run-3
-    part-run-start-3
-    part-run-end-3
-    slice-relend-prefix-run
-    slice-aggregate-run
-    slice-relend-prefix-run-2
-    slice-aggregate-run-2
-    slice-relend-prefix-run-3
-    slice-aggregate-run-3
-    run-requires
+    open-for-requires
+    slice-aggregate-play
+    sub-play
+    part-play-start
+    part-play-end
+    sub-play-2
+    part-play-start-2
+    part-play-end-2
+    sub-play-3
+    part-play-start-3
+    part-play-end-3
+    sub-play-4
+    part-play-start-4
+    part-play-end-4
+    slice-relend-prefix-play
+    slice-aggregate-play-2
+    slice-relend-prefix-play-2
+    slice-aggregate-play-3
+    slice-relend-prefix-play-3
+    slice-aggregate-play-4
+    play-requires
     same-length
     same-length-2
     same-length-3
