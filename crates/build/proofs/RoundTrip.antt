@@ -56,14 +56,14 @@ wordsIn Q.SwitchMode = 0x0c ∷ 12 ∷ 0 ∷ []
 wordsIn Q.Reset = 7 ∷ 8 ∷ []
 wordsIn (Q.MemRead v a k) = kindNumber (readKind v) ∷ sizeOf (Q.MemRead v a k) ∷ []
 
-abbrev pub widthIn : Request → Width
-widthIn (Q.HelloResp m) = WI.Bits64
-widthIn Q.Done = WI.Bits64
-widthIn (Q.Execute c) = WI.Bits64
-widthIn (Q.ExecuteData c) = WI.Bits64
-widthIn Q.SwitchMode = WI.Bits64
-widthIn Q.Reset = WI.Bits64
-widthIn (Q.MemRead v a k) = v
+abbrev pub numbersWidth : Request → Width
+numbersWidth (Q.HelloResp m) = WI.Bits64
+numbersWidth Q.Done = WI.Bits64
+numbersWidth (Q.Execute c) = WI.Bits64
+numbersWidth (Q.ExecuteData c) = WI.Bits64
+numbersWidth Q.SwitchMode = WI.Bits64
+numbersWidth Q.Reset = WI.Bits64
+numbersWidth (Q.MemRead v a k) = v
 
 abbrev pub numbersIn : Request → List ℕ
 numbersIn (Q.HelloResp m) = []
@@ -76,7 +76,7 @@ numbersIn (Q.MemRead v a k) = a ∷ k ∷ []
 
 -- their bytes
 abbrev pub numberBytes : Request → List ℕ
-numberBytes q = fields (fieldSize (widthIn q)) (numbersIn q)
+numberBytes q = fields (fieldSize (numbersWidth q)) (numbersIn q)
 
 -- a packet is its words and its numbers
 pub bytes-are : (q : Request) → bytesOf q ≡ words (wordsIn q) ++ numberBytes q
@@ -128,18 +128,26 @@ length-back (Q.MemRead v a k) = words-back (Q.MemRead v a k) 1 (omega arith)
 -- each number that its width holds is read back
 pub numbers-back : (q : Request) (i : ℕ)
     → i < length (numbersIn q)
-    → getD (numbersIn q) i 0 < 256 ^ fieldSize (widthIn q)
-    → le (fieldSize (widthIn q)) (drop (4 * length (wordsIn q) + fieldSize (widthIn q) * i) (bytesOf q)) ≡ getD (numbersIn q) i 0
+    → getD (numbersIn q) i 0 < 256 ^ fieldSize (numbersWidth q)
+    → le (fieldSize (numbersWidth q)) (drop (4 * length (wordsIn q) + fieldSize (numbersWidth q) * i) (bytesOf q)) ≡ getD (numbersIn q) i 0
 numbers-back q i h b =
     rw (
       bytes-are q,
       ← length-fields 4 (wordsIn q),
-      drop-append-add (words (wordsIn q)) (numberBytes q) (fieldSize (widthIn q) * i),
+      drop-append-add (words (wordsIn q)) (numberBytes q) (fieldSize (numbersWidth q) * i),
       ← append-nil (numberBytes q),
     )
-    (field-back (fieldSize (widthIn q)) i (numbersIn q) [] h b)
+    (field-back (fieldSize (numbersWidth q)) i (numbersIn q) [] h b)
 
--- the four fields of a memory read of either width
+-- the address and the length of a memory read of either width
+module _ (v : Width) (a k : ℕ) where
+  pub read-address : a < 256 ^ fieldSize v → le (fieldSize v) (drop 8 (bytesOf (Q.MemRead v a k))) ≡ a
+  read-address h = rw mul-zero at (numbers-back (Q.MemRead v a k) 0 (omega arith) h)
+
+  pub read-length : k < 256 ^ fieldSize v → le (fieldSize v) (drop (8 + fieldSize v) (bytesOf (Q.MemRead v a k))) ≡ k
+  read-length h = rw mul-one at (numbers-back (Q.MemRead v a k) 1 (omega arith) h)
+
+-- its four fields
 pub mem-read-back : (v : Width) (a k : ℕ) → a < 256 ^ fieldSize v → k < 256 ^ fieldSize v
     → (le 4 (drop 0 (bytesOf (Q.MemRead v a k))) ≡ kindNumber (readKind v))
     × (le 4 (drop 4 (bytesOf (Q.MemRead v a k))) ≡ sizeOf (Q.MemRead v a k))
@@ -148,6 +156,6 @@ pub mem-read-back : (v : Width) (a k : ℕ) → a < 256 ^ fieldSize v → k < 25
 mem-read-back v a k ha hk = (
   words-back (Q.MemRead v a k) 0 (omega arith),
   words-back (Q.MemRead v a k) 1 (omega arith),
-  rw mul-zero at (numbers-back (Q.MemRead v a k) 0 (omega arith) ha),
-  rw mul-one at (numbers-back (Q.MemRead v a k) 1 (omega arith) hk),
+  read-address v a k ha,
+  read-length v a k hk,
 )

@@ -36,7 +36,7 @@ abbrev pub readKind : Width → SaharaCmd
 readKind WI.Bits32 = K.MemRead
 readKind WI.Bits64 = K.MemRead64
 
--- and its size: 01's MemRead64, "an address and a length of 4 bytes" behind the header
+-- and its size: 24, and 16, an address and a length of 4 bytes behind the header's 8
 abbrev pub readSize : Width → ℕ
 readSize WI.Bits32 = 16
 readSize WI.Bits64 = 24

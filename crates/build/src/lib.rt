@@ -199,7 +199,7 @@ fn mem_read64(out: &mut [u8], addr: u64, len: u64) -> Built
     Built::Send(24)
 }
 
-// A memory read of either width. Of 32 bits what passes 2^32 of an address or a length is dropped: no session sends such a one.
+// A memory read of either width. Of 32 bits what passes 2^32 of an address or a length is dropped; what a step sends fits.
 pub fn sahara_send_mem_read(out: &mut [u8], width: Width, addr: u64, len: u64) -> Built
     ensures { λ r. ⌜ Tells buildTold (buildOutcome r (now (out .exit))) (buildOf (Request.MemRead width addr len) (now (out .entry))) ⌝ }
 {

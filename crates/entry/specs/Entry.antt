@@ -1,7 +1,7 @@
 -- Entries of the memory table. Document 01, Records, "Table entry": 64 bytes: preference, base, length (8 each), description and filename (20 each).
 -- Document 02, request 2: "Their table entries are 52 bytes: preference, base and length in 4 bytes each, then the two 20-byte texts." The width f of the three
 -- numbers, 8 or 4 (`fieldSize` of field/specs/Field), is a parameter of each definition.
-use Prim.Native.Nat.{ℕ, _+_, _*_}
+use Prim.Native.Nat.{ℕ, _+_, _*_, _/_}
 use mathlib.Core.Bool.{Bool, true, false}
 use mathlib.Core.List.{List}
 use lib.Dec.{leb}
@@ -13,6 +13,10 @@ use Rattle.entry.specs.declared.EntryAt.{EntryAt}
 
 abbrev pub entrySize : ℕ → ℕ
 entrySize f = 3 * f + 40
+
+-- how many entries k bytes of a table have: "Entries are length / 64", of 32 bits "the entries are length / 52"; a remainder is no entry
+abbrev pub entriesIn : ℕ → ℕ → ℕ
+entriesIn f k = k / entrySize f
 
 -- the bytes of entry i of a table
 abbrev pub entryOf : ℕ → List ℕ → ℕ → List ℕ
@@ -52,6 +56,7 @@ decoded f e =
 abbrev pub nothing : RamdumpTable64
 nothing = record { «save_pref» = 0; base = 0; len = 0; description = replicate 20 0; filename = replicate 20 0 }
 
+-- the answer where an entry is not there
 abbrev pub missing : EntryAt
 missing = record { there = false; entry = nothing }
 

@@ -4,10 +4,10 @@ use field::field_size;
 use field::u32_padded;
 use field::u64_padded;
 ghost use mathlib.Core.Path.{_≡_};
-ghost use Prim.Native.Nat.{_+_, _/_, _≤_};
+ghost use Prim.Native.Nat.{_+_, _≤_};
 ghost use lib.ListN.{length, take, drop};
 ghost use Rattle.field.specs.Field.{le, fieldSize};
-ghost use Rattle.entry.specs.Entry.{entrySize, decoded, missing, entryAt};
+ghost use Rattle.entry.specs.Entry.{entrySize, entriesIn, decoded, missing, entryAt};
 
 // An entry; the numbers of 32 bits are widened.
 pub struct RamdumpTable64 {
@@ -36,7 +36,7 @@ fn entry_size(width: Width) -> usize
 
 // How many entries a table of k bytes has; a remainder is none.
 pub fn entries_in(width: Width, k: usize) -> usize
-    ensures { λ r. ⌜ r ≡ k / entrySize (fieldSize width) ⌝ }
+    ensures { λ r. ⌜ r ≡ entriesIn (fieldSize width) k ⌝ }
 {
     match width {
         Width::Bits32 => k / 52,

@@ -35,7 +35,7 @@ use Rattle.session.specs.FillingPhase.{responseOf}
 use Rattle.session.specs.Step.{stepOf}
 
 -- what an example says: accepted, refused with a number, finished with a number, bytes of a set, a stem that matches or not, a packet sent, a region opened or
--- closed, so many bytes of it handed out
+-- closed, so many bytes of it handed out, an empty read
 pub data Says : Type 0 where
   ok : Says
   refused : ℕ → Says
@@ -43,9 +43,10 @@ pub data Says : Type 0 where
   given : ℕ → ℕ → Says
   matches : Bool → Says
   sends : List ℕ → Says
-  opens : ℕ → Says
-  closes : ℕ → Says
-  hands : ℕ → Says
+  opensRegion : ℕ → Says
+  closesRegion : ℕ → Says
+  handsOut : ℕ → Says
+  readsEmpty : Says
 
 -- a saying as numbers: which it is, and its values
 abbrev pub numbers : Says → List ℕ
@@ -56,9 +57,10 @@ numbers (given start k) = 3 ∷ start ∷ k ∷ []
 numbers (matches true) = 4 ∷ 1 ∷ []
 numbers (matches false) = 4 ∷ 0 ∷ []
 numbers (sends bytes) = 5 ∷ bytes
-numbers (opens i) = 6 ∷ i ∷ []
-numbers (closes i) = 7 ∷ i ∷ []
-numbers (hands k) = 8 ∷ k ∷ []
+numbers (opensRegion i) = 6 ∷ i ∷ []
+numbers (closesRegion i) = 7 ∷ i ∷ []
+numbers (handsOut k) = 8 ∷ k ∷ []
+numbers readsEmpty = 9 ∷ []
 
 -- ---- how each operation's answer is said
 
@@ -84,10 +86,10 @@ abbrev pub ofAnswer : Answer → List ℕ → Says
 ofAnswer A.Go o = ok
 ofAnswer (A.Send k) o = sends (take k o)
 ofAnswer (A.Image x k) o = given x k
-ofAnswer (A.Open i) o = opens i
-ofAnswer (A.Bytes k) o = hands k
-ofAnswer A.EmptyRead o = ok
-ofAnswer (A.Close i) o = closes i
+ofAnswer (A.Open i) o = opensRegion i
+ofAnswer (A.Bytes k) o = handsOut k
+ofAnswer A.EmptyRead o = readsEmpty
+ofAnswer (A.Close i) o = closesRegion i
 ofAnswer (A.Finished how r) o = finish how
 ofAnswer (A.Refused why) o = refused why
 
@@ -164,8 +166,8 @@ memRead WI.Bits32 a k = memory WI.Bits32 0x0a 16 a k []
 memRead WI.Bits64 a k = memory WI.Bits64 0x11 24 a k []
 
 -- a table of one entry, whose preference is 1: "preference, base and length .., then the two 20-byte texts"
-abbrev pub tableOf : Width → ℕ → ℕ → List ℕ
-tableOf v base len = fields (fieldSize v) (1 ∷ base ∷ len ∷ []) ++ (replicate 20 0 ++ (OCIMEM·BIN ++ replicate 10 0))
+abbrev pub oneEntry : Width → ℕ → ℕ → List ℕ
+oneEntry v base len = fields (fieldSize v) (1 ∷ base ∷ len ∷ []) ++ (replicate 20 0 ++ (OCIMEM·BIN ++ replicate 10 0))
 
 -- a step of a session, without images and names
 abbrev pub outcomeOf : Session → List ℕ → List ℕ → Outcome
@@ -181,15 +183,21 @@ steps v p d t = said (outcomeOf (ofWidth (inPhase (openedWith (opening M.MemoryD
 -- the step after open: base and length are of a table
 abbrev pub afterOpen : Width → ℕ → ℕ → Says
 afterOpen v base len =
-    let t = tableOf v base len in
+    let t = oneEntry v base len in
     let s = ofWidth (inPhase (openedWith (opening M.MemoryDebug)) (P.Between (length t) 0)) v in
     said (outcomeOf (outcomeOf s [] t .stepped .session) [] t)
 
 -- made up: a region with this base and length, so much done and so much outstanding, all of which comes
-abbrev pub inRegion : Width → ℕ → ℕ → ℕ → ℕ → Says
-inRegion v base len done outstanding =
-    let t = tableOf v base len in
+abbrev pub midRegion : Width → ℕ → ℕ → ℕ → ℕ → Says
+midRegion v base len done outstanding =
+    let t = oneEntry v base len in
     steps v (P.Region (length t) (region 0 base len done outstanding false)) (replicate outstanding 7) t
+
+-- made up: a region with this base and length, nothing done, and an empty read due
+abbrev pub dueRegion : Width → ℕ → ℕ → Says
+dueRegion v base len =
+    let t = oneEntry v base len in
+    steps v (P.Region (length t) (region 0 base len 0 0 true)) [] t
 
 -- inside region i of a table of 65,536 bytes, one byte outstanding, which comes
 abbrev pub atEntry : Width → ℕ → Says
@@ -238,6 +246,8 @@ unfoldable pub oldBoards : List Example
 oldBoards =
     -- "After MemDebug the host .. sends MemRead for the table": "an address and a length of 4 bytes"
     example (judged (memory WI.Bits32 9 16 4096 104 [])) (sends (memRead WI.Bits32 4096 104))
+    -- a table whose own end passes 2^32 is not refused
+    ∷ example (judged (memory WI.Bits32 9 16 0xFFFFFFFF 104 [])) (sends (memRead WI.Bits32 0xFFFFFFFF 104))
     -- "MemDebug must be exactly 16 bytes long, else 11"; below 16 its body is short, 9
     ∷ example (judged (memory WI.Bits32 9 17 4096 104 (0 ∷ []))) (refused 11)
     ∷ example (judged (take 15 (memory WI.Bits32 9 15 4096 104 []))) (refused 9)
@@ -245,25 +255,27 @@ oldBoards =
     ∷ example (judged (memory WI.Bits32 0x0a 16 4096 104 [])) (refused 10)
     ∷ example (judged (take 15 (memory WI.Bits32 0x0a 15 4096 104 []))) (refused 9)
     -- "Their table entries are 52 bytes", "the entries are length / 52"; of 64 bits 52 bytes are none
-    ∷ example (steps WI.Bits32 (P.Between 52 0) [] (tableOf WI.Bits32 0 1)) (opens 0)
-    ∷ example (steps WI.Bits64 (P.Between 52 0) [] (tableOf WI.Bits32 0 1)) (finish 3)
+    ∷ example (steps WI.Bits32 (P.Between 52 0) [] (oneEntry WI.Bits32 0 1)) (opensRegion 0)
+    ∷ example (steps WI.Bits64 (P.Between 52 0) [] (oneEntry WI.Bits32 0 1)) (finish 3)
     -- "24 when a selected 32-bit region has base + length above 2^32, in the place of 22": it may end at 2^32, and one of 64 bits may pass it
     ∷ example (afterOpen WI.Bits32 0xFFFFFFFF 1) (sends (memRead WI.Bits32 0xFFFFFFFF 1))
     ∷ example (afterOpen WI.Bits32 0xFFFFFFFF 2) (refused 24)
     ∷ example (afterOpen WI.Bits64 0xFFFFFFFF 2) (sends (memRead WI.Bits64 0xFFFFFFFF 2))
     ∷ example (afterOpen WI.Bits64 (2 ^ 64 - 1) 2) (refused 22)
     -- the same of a session made up, whose base passes 4 bytes
-    ∷ example (inRegion WI.Bits32 (2 ^ 32) 0 0 0) (closes 0)
-    ∷ example (inRegion WI.Bits32 (2 ^ 32 + 1) 0 0 0) (refused 24)
+    ∷ example (midRegion WI.Bits32 (2 ^ 32) 0 0 0) (closesRegion 0)
+    ∷ example (midRegion WI.Bits32 (2 ^ 32 + 1) 0 0 0) (refused 24)
+    -- "an empty read first if one is due"
+    ∷ example (dueRegion WI.Bits32 (2 ^ 32 + 1) 0) readsEmpty
     -- "For such a session the limit of base plus length under 18 is 2^32", once anything is done or outstanding
-    ∷ example (inRegion WI.Bits32 0xFFFFFFFF 2 0 2) (refused 18)
-    ∷ example (inRegion WI.Bits32 0xFFFFFFFF 2 1 0) (refused 18)
-    ∷ example (inRegion WI.Bits32 0xFFFFFFFE 2 0 2) (hands 2)
-    ∷ example (inRegion WI.Bits64 0xFFFFFFFF 2 0 2) (hands 2)
+    ∷ example (midRegion WI.Bits32 0xFFFFFFFF 2 0 2) (refused 18)
+    ∷ example (midRegion WI.Bits32 0xFFFFFFFF 2 1 0) (refused 18)
+    ∷ example (midRegion WI.Bits32 0xFFFFFFFE 2 0 2) (handsOut 2)
+    ∷ example (midRegion WI.Bits64 0xFFFFFFFF 2 0 2) (handsOut 2)
     -- 65,536 bytes are 1,260 entries of 52, and 1,024 of 64: "entry number, the table's entries, inside a region one fewer" (18)
-    ∷ example (atEntry WI.Bits32 1259) (hands 1)
+    ∷ example (atEntry WI.Bits32 1259) (handsOut 1)
     ∷ example (atEntry WI.Bits32 1260) (refused 18)
-    ∷ example (atEntry WI.Bits64 1023) (hands 1)
+    ∷ example (atEntry WI.Bits64 1023) (handsOut 1)
     ∷ example (atEntry WI.Bits64 1024) (refused 18)
     ∷ []
 

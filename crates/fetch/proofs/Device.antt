@@ -5,16 +5,17 @@ use mathlib.Core.Bool.{false}
 use mathlib.Core.List.{List, [], _∷_, _++_}
 use Prim.Native.Nat.{ℕ, zero, suc, _+_, _-_, _^_, _≤_, _<_}
 use native.Mathlib.Omega.{arith}
-use native.Mathlib.Nat.{add-zero, suc-add, add-suc, sub-zero, suc-sub-suc, mul-zero, mul-one}
+use native.Mathlib.Nat.{add-zero, suc-add, add-suc, sub-zero, suc-sub-suc}
 use lib.ListN.{length, take, drop, length-take}
 use lib.Seq.{take-take}
 use Rattle.field.specs.Field.{le, leBytes, fieldSize}
 use Rattle.field.specs.declared.Width.{Width}
 use Rattle.field.specs.declared.Width.the-variants as WI
+use Rattle.field.proofs.Laws.{memory-least}
 use Rattle.packet.specs.Packet.{addressIn, lengthIn}
 use Rattle.build.specs.Build.{fields, bytesOf}
 use Rattle.build.specs.declared.Request.the-variants as Q
-use Rattle.build.proofs.RoundTrip.{numbers-back}
+use Rattle.build.proofs.RoundTrip.{read-address, read-length}
 use Rattle.fetch.specs.Plain.{isRead, readsAs, bytesAt}
 use Rattle.fetch.specs.Device.{served}
 use Rattle.base.proofs.Tests.{neither}
@@ -71,22 +72,11 @@ unfolding served bytesOf fields le leBytes
 served-as mem WI.Bits32 a k = refl
 served-as mem WI.Bits64 a k = refl
 
-read-address : (v : Width) (a k : ℕ) → a < 256 ^ fieldSize v → addressIn (fieldSize v) (bytesOf (Q.MemRead v a k)) ≡ a
-read-address v a k h = rw mul-zero at (numbers-back (Q.MemRead v a k) 0 (omega arith) h)
-
-read-length : (v : Width) (a k : ℕ) → k < 256 ^ fieldSize v → lengthIn (fieldSize v) (bytesOf (Q.MemRead v a k)) ≡ k
-read-length v a k h = rw mul-one at (numbers-back (Q.MemRead v a k) 1 (omega arith) h)
-
--- a table and a chunk have at most 65,536 bytes, which either width holds
-length-held : (v : Width) (k : ℕ) → k ≤ 65536 → k < 256 ^ fieldSize v
-length-held WI.Bits32 k h = omega arith
-length-held WI.Bits64 k h = omega arith
-
--- the device reads back the address and the length that the host wrote
+-- the device reads back the address and the length that the host wrote: a table and a chunk have at most 65,536 bytes, which either width holds
 pub served-read : (mem : ℕ → ℕ) (v : Width) (a k : ℕ) → a + k ≤ 256 ^ fieldSize v → k ≤ 65536
     → served mem (bytesOf (Q.MemRead v a k)) ≡ bytesAt mem a k
 served-read mem v a k h l =
-    rw (served-as mem v a k, read-length v a k (length-held v k l))
+    rw (served-as mem v a k, read-length v a k (omega (arith, memory-least v)))
     (at-address mem a (addressIn (fieldSize v) (bytesOf (Q.MemRead v a k))) k (256 ^ fieldSize v) h (read-address v a k))
 
 -- ---- deliveries: beginnings of the queue, empty only when nothing is queued

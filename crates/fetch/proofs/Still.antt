@@ -10,7 +10,7 @@ use Rattle.bundle.specs.Bundle.{wellFormed}
 use Rattle.field.specs.Field.{fieldSize}
 use Rattle.field.specs.declared.Width.{Width}
 use Rattle.field.specs.declared.Width.the-variants as WI
-use Rattle.entry.specs.Entry.{entryOf, filenameOf}
+use Rattle.entry.specs.Entry.{entryOf, filenameOf, entriesIn}
 use Rattle.utf8.specs.Utf8.{utf8}
 use Rattle.filename.specs.Filename.{before, has, openCheck, afterOpenCheck}
 use Rattle.filename.specs.declared.NameCheck.{NameCheck}
@@ -28,7 +28,7 @@ use Rattle.session.specs.declared.Session.{Session}
 use Rattle.session.specs.Outcome.{Outcome, outcome, isEnded, untouched}
 use Rattle.session.specs.PacketPhase.{keep, acted, wholeOf, sizedOf, packetOf}
 use Rattle.session.specs.FillingPhase.{responseOf, switchedOf, tableOf}
-use Rattle.session.specs.BetweenPhase.{entriesIn, openOf, betweenOf}
+use Rattle.session.specs.BetweenPhase.{openOf, betweenOf}
 use Rattle.session.specs.RegionPhase.{pastEnd, nameIn, nextChunk, begunOf, askOf, handOf, regionOf}
 use Rattle.session.specs.Limits.{limitOf}
 use Rattle.session.specs.Step.{onPhase, stepOf}

@@ -11,7 +11,7 @@ use lib.Seq.{paste, length-paste}
 use borrow.Author.Tests.{ltb-true, ltb-false, leb-false}
 use Rattle.bundle.specs.Bundle.{wellFormed}
 use Rattle.field.specs.Field.{fieldSize}
-use Rattle.entry.specs.Entry.{entrySize, entryOf, filenameOf}
+use Rattle.entry.specs.Entry.{entrySize, entryOf, filenameOf, entriesIn}
 use Rattle.filename.specs.Filename.{openCheck, afterOpenCheck}
 use Rattle.filename.specs.declared.NameCheck.{NameCheck}
 use Rattle.filename.specs.declared.NameCheck.the-variants as N
@@ -34,7 +34,7 @@ use Rattle.session.specs.declared.Answer.the-variants as A
 use Rattle.session.specs.Outcome.{Outcome, outcome, gives, isEnded, untouched}
 use Rattle.session.specs.PacketPhase.{keep, acted, wholeOf, sizedOf, packetOf}
 use Rattle.session.specs.FillingPhase.{responseOf, switchedOf, tableOf}
-use Rattle.session.specs.BetweenPhase.{entriesIn, openOf, betweenOf}
+use Rattle.session.specs.BetweenPhase.{openOf, betweenOf}
 use Rattle.session.specs.RegionPhase.{pastEnd, nameIn, nextChunk, begunOf, askOf, handOf, regionOf}
 use Rattle.session.specs.Limits.{readsLimit, phaseLimit, limitOf}
 use Rattle.session.specs.Step.{onPhase, stepOf}

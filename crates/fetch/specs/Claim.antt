@@ -8,7 +8,7 @@ use mathlib.Core.Path.{_≡_}
 use mathlib.Core.Bool.{true}
 use mathlib.Core.List.{List, [], _∷_, _++_}
 use lib.ListN.{length}
-use Rattle.entry.specs.Entry.{entrySize, entryOf, baseOf, lengthOf, filenameOf}
+use Rattle.entry.specs.Entry.{entriesIn, entryOf, baseOf, lengthOf, filenameOf}
 use Rattle.filename.specs.Filename.{sound}
 use Rattle.selection.specs.Selection.{selected}
 use Rattle.verdict.specs.declared.Opening.{Opening}
@@ -59,7 +59,7 @@ pub record Dumpable (f : ℕ) (e : List ℕ) : Type 0 where
 pub record Premises (c : Setting) (dbg : Debug) : Type 0 where
   pub opens : heardOf c .ending ≡ Debugged dbg []
   pub top : dbg .address + dbg .size ≤ 256 ^ fieldIn dbg
-  pub regions : (i : ℕ) → i < dbg .size / entrySize (fieldIn dbg)
+  pub regions : (i : ℕ) → i < entriesIn (fieldIn dbg) (dbg .size)
       → selected (fieldIn dbg) (c .names) (entryOf (fieldIn dbg) (tableIn (c .mem) dbg) i) ≡ true
       → Dumpable (fieldIn dbg) (entryOf (fieldIn dbg) (tableIn (c .mem) dbg) i)
 

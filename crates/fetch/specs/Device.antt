@@ -99,7 +99,8 @@ abbrev pub left : Delivery → ℕ → List ℕ → List ℕ
 left (first k) taken q = drop taken q
 left (another d) taken q = q
 
--- what the device queues when a packet is sent: the memory's bytes, where it is a memory read, by the address and the length in it
+-- what the device queues when a packet is sent: the memory's bytes, where it is a memory read, by the address and the length in it. It answers either width,
+-- whichever it offered: which one is sent, the reports tell
 abbrev pub servedAs : (ℕ → ℕ) → List ℕ → Width → List ℕ → List ℕ
 servedAs mem p v unread = pick (readsAs v p) (bytesAt mem (addressIn (fieldSize v) p) (lengthIn (fieldSize v) p)) unread
 

@@ -26,7 +26,7 @@ use Rattle.fetch.specs.Plain.{
 }
 use Rattle.fetch.specs.Claim.{regionReads}
 
--- a report of a memory read
+-- a report of a memory read, of either width: "each counted as a memory read"
 abbrev pub readIn : Report → Bool
 readIn (sent p) = isRead p
 readIn (image p) = false

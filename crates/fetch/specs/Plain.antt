@@ -12,7 +12,7 @@ use Rattle.field.specs.Field.{fieldSize}
 use Rattle.field.specs.declared.Width.{Width}
 use Rattle.field.specs.declared.Width.the-variants as WI
 use Rattle.bundle.specs.Bundle.{wellFormed}
-use Rattle.entry.specs.Entry.{entrySize, entryOf, baseOf, lengthOf}
+use Rattle.entry.specs.Entry.{entriesIn, entryOf, baseOf, lengthOf}
 use Rattle.selection.specs.Selection.{selected}
 use Rattle.command.specs.Command.{kindNumber}
 use Rattle.packet.specs.Packet.{commandField, lengthField, badLength}
@@ -154,9 +154,9 @@ regions v u mem t (i ∷ is) r =
 abbrev pub tableIn : (ℕ → ℕ) → Debug → List ℕ
 tableIn mem dbg = bytesAt mem (dbg .address) (dbg .size)
 
--- its selected entries: "Entries are length / 64", of 32 bits length / 52
+-- its selected entries
 abbrev pub selectedIn : (ℕ → ℕ) → List ℕ → Debug → List ℕ
-selectedIn mem names dbg = chosen (fieldIn dbg) names (tableIn mem dbg) (dbg .size / entrySize (fieldIn dbg)) 0
+selectedIn mem names dbg = chosen (fieldIn dbg) names (tableIn mem dbg) (entriesIn (fieldIn dbg) (dbg .size)) 0
 
 -- what stands after the memory debug is not looked at (the claim's premises have none)
 unfoldable pub dump : Opening → (ℕ → ℕ) → List ℕ → Ending → List Report

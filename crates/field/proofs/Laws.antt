@@ -24,7 +24,9 @@ use lib.Arith.{mod-mul}
 use lib.Dec.{lit<}
 use lib.Seq.{sets, sets-eq, drop-at, length-take-le}
 use Rattle.base.proofs.Ranges.{below-or-not}
-use Rattle.field.specs.Field.{le, leBytes, fieldAt, field4, field8, putAt, written}
+use Rattle.field.specs.Field.{le, leBytes, fieldAt, field4, field8, putAt, written, fieldSize}
+use Rattle.field.specs.declared.Width.{Width}
+use Rattle.field.specs.declared.Width.the-variants as WI
 use Rattle.field.specs.declared.Field4.the-variants as F4
 use Rattle.field.specs.declared.Field8.the-variants as F8
 use Rattle.field.specs.declared.Put.the-variants as P
@@ -106,6 +108,15 @@ leBytes-mod (suc w) v =
     let a : (v % 256 ^ suc w) % 256 ≡ v % 256 = omega arith in
     let b : (v % 256 ^ suc w) / 256 ≡ v / 256 % 256 ^ w = omega arith in
     rw (a, b, leBytes-mod w (v / 256)) refl
+
+-- a memory of either width ends at or below 2^64, and behind any table's length
+pub memory-most : (v : Width) → 256 ^ fieldSize v ≤ 256 ^ 8
+memory-most WI.Bits32 = omega arith
+memory-most WI.Bits64 = omega arith
+
+pub memory-least : (v : Width) → 65536 < 256 ^ fieldSize v
+memory-least WI.Bits32 = omega arith
+memory-least WI.Bits64 = omega arith
 
 -- a field reads no byte behind it
 pub le-take : (w n : ℕ) (s : List ℕ) → w ≤ n → le w (take n s) ≡ le w s

@@ -13,7 +13,7 @@ ghost use lib.Dec.{ltb};
 ghost use lib.ListN.{length};
 ghost use Rattle.field.specs.Field.{fieldSize};
 ghost use Rattle.packet.specs.Packet.{lengthField};
-ghost use Rattle.session.specs.BetweenPhase.{entriesIn};
+ghost use Rattle.entry.specs.Entry.{entriesIn};
 ghost use Rattle.session.specs.Limits.{heldLimit, fillingLimit, regionLimit};
 
 // Memory reads above 2^63 + 1.

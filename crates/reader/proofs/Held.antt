@@ -82,14 +82,14 @@ abbrev pub movedF : (κs : Lfts 1) → Args moved.signature κs → Res moved.si
 movedF κs a = readerAt (a .0 .src) (a .1 .0)
 
 -- a width: the result's type, its type in MIR, and the field at an offset
-pub record Width : Type 2 where
+pub record FieldKind : Type 2 where
   pub row : RattleType
   pub mir : Ty
   pub typed : {M : Type 1} (𝓤 : URA M) (H : Heap 𝓤) (A : Atoms 𝓤) → Given 𝓤 H A → (r : row .Denot) (u : Val) → Is row r (u ∷ [])
       → Holds (hasTy mir u) × WT u
   pub field : List ℕ → ℕ → row .Denot
 
-abbrev pub words : Width
+abbrev pub words : FieldKind
 words = record {
   row = S4.the-row;
   mir = S4′.mir;
@@ -97,7 +97,7 @@ words = record {
   field = wordAt;
 }
 
-abbrev pub longs : Width
+abbrev pub longs : FieldKind
 longs = record {
   row = S8.the-row;
   mir = S8′.mir;
@@ -106,7 +106,7 @@ longs = record {
 }
 
 -- what a function gives that reads a field: in a slice at an offset, and through a reader
-module _ (F : Width) where
+module _ (F : FieldKind) where
   abbrev pub plainT : Ended
   plainT = record {
     signature = record { lifetimes = 1; outlives = []; params = SliceRef 0 tt u8 tt ∷ plain (λ _. usize) ∷ []; result = plain (λ _. F .row) };

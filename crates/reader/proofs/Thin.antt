@@ -32,9 +32,9 @@ use denote.Triple.Table.{entered, cited}
 use Rattle.reader.specs.declared.Reader.{Reader}
 use Rattle.reader.proofs.Reader.Laws as T′
 use Rattle.reader.proofs.Gives.{Gives, asked, told, Shown, Own, by-walk}
-use Rattle.reader.proofs.Held.{B, D, L, ats, fields, opened, sliceTy, Width, plainT, plainF, heldT, heldF, one-quiet}
+use Rattle.reader.proofs.Held.{B, D, L, ats, fields, opened, sliceTy, FieldKind, plainT, plainF, heldT, heldF, one-quiet}
 
-module _ (F : Width) (k : Name) where
+module _ (F : FieldKind) (k : Name) where
   -- the MIR of a thin reader that calls k
   abbrev thin : Fn
   thin = record {

@@ -46,9 +46,9 @@ use Rattle.reader.proofs.moved.Symbol as moved-def
 use Rattle.reader.proofs.moved.Symbol.{name as #reader·moved}
 use Rattle.reader.proofs.moved.Met as moved-thm
 use Rattle.reader.proofs.Gives.{Gives, asked, told, Shown, Own, by-walk}
-use Rattle.reader.proofs.Held.{B, ats, fields, sliceTy, newF, movedF, Width, plainT, plainF, heldT, heldF, two-quiet}
+use Rattle.reader.proofs.Held.{B, ats, fields, sliceTy, newF, movedF, FieldKind, plainT, plainF, heldT, heldF, two-quiet}
 
-module _ (F : Width) (k : Name) where
+module _ (F : FieldKind) (k : Name) where
   -- the MIR of such a function over the thin reader k
   abbrev through : Fn
   through = record {

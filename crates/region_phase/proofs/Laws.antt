@@ -4,31 +4,28 @@ use mathlib.Core.Path.{_≡_, refl, sym, ap}
 use mathlib.Core.Bool.{Bool, true, false, not, _&&_, _||_, true≢false}
 use mathlib.Core.List.{List}
 use Prim.Native.Nat.{ℕ, _+_, _^_, _<_, _≤_}
+use native.Mathlib.Omega.{arith}
 use borrow.Author.Tests.{ltb-false, leb-false, ne-eqb}
-use lib.Dec.{ltb, leb, eqb, lit≤}
+use lib.Dec.{ltb, leb, eqb}
 use lib.ListN.{length}
 use Rattle.base.proofs.Ranges.{by-test, by-else}
 use Rattle.field.specs.Field.{fieldSize}
 use Rattle.field.specs.declared.Width.{Width}
-use Rattle.field.specs.declared.Width.the-variants as WI
+use Rattle.field.proofs.Laws.{memory-least}
+use Rattle.verdict.specs.Opening.{chunkOf}
 use Rattle.verdict.specs.declared.Opening.{Opening}
 use Rattle.session.specs.declared.Region.{Region}
 use Rattle.session.specs.declared.Session.{Session}
 use Rattle.session.specs.declared.Counted.{Counted}
 use Rattle.session.specs.Outcome.{Outcome}
-use Rattle.session.specs.BetweenPhase.{entriesIn}
-use Rattle.session.specs.RegionPhase.{nextChunk, askOf, handOf, regionOf}
+use Rattle.entry.specs.Entry.{entriesIn}
+use Rattle.session.specs.RegionPhase.{asksFor, nextChunk, askOf, handOf, regionOf}
 use Rattle.session.specs.Limits.{regionLimit}
 use Rattle.session.specs.Guard.{regionStep}
 use Rattle.region_phase.specs.Advance.{Advanced, advanced, advanceWithin, advanceOf, onAdvance}
 use Rattle.region_phase.specs.declared.Advance.{Advance}
 use Rattle.region_phase.specs.declared.Advance.the-variants as D
 use Rattle.base.proofs.Tests.{neither}
-
--- no memory is above 2^64
-pub memory-most : (v : Width) → 256 ^ fieldSize v ≤ 256 ^ 8
-memory-most WI.Bits32 = lit≤ tt
-memory-most WI.Bits64 = lit≤ tt
 
 pub record InLimits (f k : ℕ) (x : Region) (t : List ℕ) : Type 0 where
   pub table : k ≤ length t
@@ -58,6 +55,12 @@ region-within f k x t e =
       counts = ltb-false (x .len) sum (abc .1);
       ends = λ n. ltb-false (256 ^ f) (x .base + x .len) (and-left (eqb sum 0) D (abcd .1) (ne-eqb sum 0 n));
     }
+
+-- what `ask` is called with fits the fields of a memory read: its numbers are written as they are
+pub asked-fits : (v : Width) (u : Opening) (x : Region) → x .done < x .len → x .base + x .len ≤ 256 ^ fieldSize v
+    → (x .base + x .done < 256 ^ fieldSize v) × (asksFor u x < 256 ^ fieldSize v)
+unfolding chunkOf
+asked-fits v u x h l = (omega arith, omega (arith, memory-least v))
 
 -- ---- a session's step is the step over its counts
 

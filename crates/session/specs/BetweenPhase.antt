@@ -1,12 +1,12 @@
 -- *Between regions*. Document 01, "Session": "take nothing; open the next selected entry, i its place in the table from 0, its base and length kept in
--- the session from then on, or finish (3)". f is the width of an entry's numbers: 8 or 4 in the step, by the session's width, so that an entry (`entrySize f`) has
--- 64 bytes or 52.
-use Prim.Native.Nat.{ℕ, _-_, _/_}
+-- the session from then on, or finish (3)". f is the width of an entry's numbers, which in the step is that of the
+-- session s.
+use Prim.Native.Nat.{ℕ, _-_}
 use mathlib.Core.Bool.{false}
 use mathlib.Core.List.{List}
 use lib.Dec.{ltb}
 use Rattle.base.specs.Choice.{pick}
-use Rattle.entry.specs.Entry.{entrySize, entryOf, baseOf, lengthOf, filenameOf}
+use Rattle.entry.specs.Entry.{entryOf, baseOf, lengthOf, filenameOf, entriesIn}
 use Rattle.filename.specs.Filename.{openCheck}
 use Rattle.filename.specs.declared.NameCheck.{NameCheck}
 use Rattle.filename.specs.declared.NameCheck.the-variants as N
@@ -16,10 +16,6 @@ use Rattle.session.specs.declared.Session.{Session}
 use Rattle.session.specs.declared.Answer.the-variants as A
 use Rattle.session.specs.declared.Stepped.{Stepped}
 use Rattle.session.specs.Outcome.{inPhase, ended, region, gives}
-
--- "Entries are length / 64", of 32 bits "the entries are length / 52" (document 02, request 2): a remainder is no entry
-abbrev pub entriesIn : ℕ → ℕ → ℕ
-entriesIn f k = k / entrySize f
 
 -- entry i, whose bytes are e, opened or refused by its name: 19, 20
 abbrev pub openOf : ℕ → Session → ℕ → ℕ → List ℕ → NameCheck → Stepped

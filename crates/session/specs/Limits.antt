@@ -8,13 +8,13 @@ use mathlib.Core.List.{List}
 use lib.Dec.{ltb, leb, eqb}
 use lib.ListN.{length}
 use Rattle.field.specs.Field.{fieldSize}
+use Rattle.entry.specs.Entry.{entriesIn}
 use Rattle.packet.specs.Packet.{lengthField, badLength}
 use Rattle.session.specs.declared.Filling.{Filling}
 use Rattle.session.specs.declared.Region.{Region}
 use Rattle.session.specs.declared.Phase.{Phase}
 use Rattle.session.specs.declared.Phase.the-variants as P
 use Rattle.session.specs.declared.Session.{Session}
-use Rattle.session.specs.BetweenPhase.{entriesIn}
 
 -- "held packet bytes 4,095 and, from the eighth on, one less than the length in their header, which is 8..4096"
 abbrev pub heldLimit : List ℕ → ℕ → Bool

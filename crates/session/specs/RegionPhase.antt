@@ -91,7 +91,7 @@ pastEnd WI.Bits32 = 24
 pastEnd WI.Bits64 = 22
 
 -- "in the step after open (nothing done or outstanding, no empty read due)": 21 by the table that is lent in that step, 22 or 24 by the base and length that
--- the session keeps; 256 ^ f is 2^64 or 2^32. With nothing outstanding, done is 0 only before the first memory read: each asks for at least a byte, and its bytes
+-- the session keeps; 256 ^ fieldSize is 2^64 or 2^32. With nothing outstanding, done is 0 only before the first memory read: each asks for at least a byte, and its bytes
 -- are handed out before the next
 abbrev pub begunOf : Session → ℕ → Region → List ℕ → List ℕ → List ℕ → NameCheck → Outcome
 begunOf s k x t y o N.Good =

@@ -12,7 +12,7 @@ use lib.ListN.{length}
 use Rattle.field.specs.Field.{fieldSize}
 use Rattle.base.specs.Choice.{pick}
 use Rattle.base.proofs.Tests.{neither}
-use Rattle.entry.specs.Entry.{entrySize, entryOf, there, decoded, entryAt}
+use Rattle.entry.specs.Entry.{entrySize, entryOf, there, decoded, entryAt, entriesIn}
 use Rattle.entry.specs.declared.EntryAt.{EntryAt}
 use Rattle.entry.proofs.Laws.{entry-there}
 use Rattle.session.specs.declared.Phase.{Phase}
@@ -20,7 +20,6 @@ use Rattle.session.specs.declared.Session.{Session}
 use Rattle.session.specs.declared.Stepped.{Stepped}
 use Rattle.session.specs.declared.Answer.the-variants as A
 use Rattle.session.specs.Outcome.{Outcome, outcome, gives, untouched}
-use Rattle.session.specs.BetweenPhase.{entriesIn}
 use Rattle.session.specs.Limits.{readsLimit, phaseLimit}
 use Rattle.session.specs.Guard.{limitAt, guarded}
 use Rattle.turn.specs.Turn.{refusalOf}

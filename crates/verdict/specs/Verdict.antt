@@ -64,9 +64,10 @@ room tsize = min 65536 tsize
 abbrev pub tableFor : ℕ → Width → ℕ → ℕ → Verdict
 tableFor tsize v a k = pick (ltb (room tsize) k) (W.Refused 17) (W.Debug v a k)
 
--- by the kind (`kindIn` of packet/specs/Packet: HelloReq is Hello, ReadReq ReadData, ReadData64Req ReadData64, Eoi EndOfImage, DoneReq Done, ExecResp ExecuteResp, ExecData
--- ExecuteData, DebugReq MemDebug, ReadMemReq MemRead, Debug64Req MemDebug64, ReadMem64Req MemRead64); u is what the session was opened with, len the length field, tsize and rsize the table and the reply
--- buffer's sizes. DoneResp and ExecuteResp may have any good length from that of their least packet on, 12 and 16 bytes
+-- by the kind (`kindIn` of packet/specs/Packet: HelloReq is Hello, ReadReq ReadData, ReadData64Req ReadData64, Eoi EndOfImage, DoneReq Done, ExecResp
+-- ExecuteResp, ExecData ExecuteData, DebugReq MemDebug, ReadMemReq MemRead, Debug64Req MemDebug64, ReadMem64Req MemRead64); u is what the session was opened
+-- with, len the length field, tsize and rsize the table and the reply buffer's sizes. DoneResp and ExecuteResp may have any good length from that of their least
+-- packet on, 12 and 16 bytes
 abbrev pub onBody : Opening → List ℕ → ℕ → ℕ → ℕ → SaharaPacketBody → Verdict
 onBody u set tsize rsize len (B.HelloReq b) = exactly len 48 (W.Reply (Q.HelloResp (u .mode)))
 onBody u set tsize rsize len (B.HelloResp b) = W.Refused 10

@@ -12,7 +12,7 @@ use lib.Seq.{take-length}
 use Rattle.field.specs.Field.{fieldSize}
 use Rattle.base.proofs.Ranges.{by-test}
 use Rattle.bundle.specs.Bundle.{wellFormed}
-use Rattle.entry.specs.Entry.{entryOf, filenameOf}
+use Rattle.entry.specs.Entry.{entryOf, filenameOf, entriesIn}
 use Rattle.filename.specs.Filename.{openCheck, afterOpenCheck}
 use Rattle.filename.specs.declared.NameCheck.{NameCheck}
 use Rattle.filename.specs.declared.NameCheck.the-variants as N
@@ -29,7 +29,7 @@ use Rattle.session.specs.declared.Stepped.{Stepped}
 use Rattle.session.specs.Outcome.{heldIn, isEnded, holding, Outcome, outcome}
 use Rattle.session.specs.PacketPhase.{keep, acted, packetOf}
 use Rattle.session.specs.FillingPhase.{responseOf, switchedOf, tableOf}
-use Rattle.session.specs.BetweenPhase.{entriesIn, openOf, betweenOf}
+use Rattle.session.specs.BetweenPhase.{openOf, betweenOf}
 use Rattle.session.specs.RegionPhase.{nextChunk, begunOf, askOf, handOf, regionOf, nameIn}
 use Rattle.session.specs.Limits.{heldLimit, limitOf}
 use Rattle.session.proofs.Window.{keep-length, keep-same}
@@ -151,9 +151,10 @@ module _ (s : Session) (b d set names t y o : List ℕ) (g : HoldsBytes s b) whe
       let n : ℕ = min (x .declared - x .filled) (length d) in
       split Keeps (ltb (x .filled + n) (x .declared)) (λ m. free _ n refl (g .size) tt) (λ m. free _ n refl (g .size) tt)
   phase-holds (P.Between k from) e f =
-      let i : ℕ = nextOf (fieldSize (s .width)) names t (entriesIn (fieldSize (s .width)) k - from) from in
-      split (λ (r : Stepped). Keeps (outcome r t y o)) (ltb i (entriesIn (fieldSize (s .width)) k))
-      (λ m. open-holds k i (entryOf (fieldSize (s .width)) t i) (openCheck (filenameOf (fieldSize (s .width)) (entryOf (fieldSize (s .width)) t i)))) (λ m. free _ 0 refl (g .size) tt)
+      let w : ℕ = fieldSize (s .width) in
+      let i : ℕ = nextOf w names t (entriesIn w k - from) from in
+      split (λ (r : Stepped). Keeps (outcome r t y o)) (ltb i (entriesIn w k))
+      (λ m. open-holds k i (entryOf w t i) (openCheck (filenameOf w (entryOf w t i)))) (λ m. free _ 0 refl (g .size) tt)
   phase-holds (P.Region k x) e f = region-holds k x
   phase-holds (P.Ended k) e f = still
 

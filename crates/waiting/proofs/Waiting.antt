@@ -15,7 +15,7 @@ use Rattle.base.specs.Choice.{pick}
 use Rattle.base.proofs.Tests.{neither, split, differ}
 use Rattle.base.proofs.Ranges.{by-test}
 use Rattle.bundle.specs.Bundle.{wellFormed}
-use Rattle.entry.specs.Entry.{entryOf, filenameOf}
+use Rattle.entry.specs.Entry.{entryOf, filenameOf, entriesIn}
 use Rattle.filename.specs.Filename.{openCheck, afterOpenCheck}
 use Rattle.filename.specs.declared.NameCheck.{NameCheck}
 use Rattle.filename.specs.declared.NameCheck.the-variants as N
@@ -35,7 +35,7 @@ use Rattle.session.specs.declared.Stepped.{Stepped}
 use Rattle.session.specs.Outcome.{Outcome, outcome, gives, untouched, inPhase, isEnded}
 use Rattle.session.specs.PacketPhase.{keep, acted, wholeOf, sizedOf, packetOf}
 use Rattle.session.specs.FillingPhase.{responseOf, switchedOf, tableOf}
-use Rattle.session.specs.BetweenPhase.{entriesIn, openOf, betweenOf}
+use Rattle.session.specs.BetweenPhase.{openOf, betweenOf}
 use Rattle.session.specs.RegionPhase.{nextChunk, begunOf, askOf, handOf, regionOf, nameIn}
 use Rattle.session.specs.Limits.{heldLimit, readsLimit, phaseLimit, limitOf}
 use Rattle.session.specs.Step.{onPhase, stepOf}
@@ -163,8 +163,9 @@ module _ (s : Session) (set names t y o : List ℕ) where
   between-other : (k i : ℕ) → Other (betweenOf (fieldSize (s .width)) s k i names t)
   unfolding betweenOf
   between-other k from =
-      let i : ℕ = nextOf (fieldSize (s .width)) names t (entriesIn (fieldSize (s .width)) k - from) from in
-      split Other (ltb i (entriesIn (fieldSize (s .width)) k)) (λ e. open-other k i (entryOf (fieldSize (s .width)) t i) (openCheck (filenameOf (fieldSize (s .width)) (entryOf (fieldSize (s .width)) t i)))) (λ e. (refl, other _ (λ q. cc)))
+      let f : ℕ = fieldSize (s .width) in
+      let i : ℕ = nextOf f names t (entriesIn f k - from) from in
+      split Other (ltb i (entriesIn f k)) (λ e. open-other k i (entryOf f t i) (openCheck (filenameOf f (entryOf f t i)))) (λ e. (refl, other _ (λ q. cc)))
 
   -- a region with nothing outstanding
   abbrev Asks : Outcome → Type 0

@@ -41,7 +41,8 @@ module _ (s : Session) (b set names t y o : List ℕ) (h : ℕ) (g : HoldsBytes 
   limits-held : limitOf s t y ≡ false
   unfolding limitOf
   limits-held =
-      let l : phaseLimit (fieldSize (s .width)) (s .window) (s .phase) t y ≡ false = ap (λ (p : Phase). phaseLimit (fieldSize (s .width)) (s .window) p t y) phase-held ∙ held .0 in
+      let f : ℕ = fieldSize (s .width) in
+      let l : phaseLimit f (s .window) (s .phase) t y ≡ false = ap (λ (p : Phase). phaseLimit f (s .window) p t y) phase-held ∙ held .0 in
       rw (l, held .1) refl
 
   -- it is the packet phase with all the bytes

@@ -10,7 +10,7 @@ use Rattle.session.specs.Answers.{outcomeTold}
 use Rattle.session.specs.declared.Phase.the-variants as P
 use Rattle.session.specs.declared.Stepped.{Stepped}
 use Rattle.session.specs.Outcome.{outcome}
-use Rattle.session.specs.BetweenPhase.{entriesIn}
+use Rattle.entry.specs.Entry.{entriesIn}
 use Rattle.session.specs.Guard.{betweenStep}
 use Rattle.base.proofs.Tests.{neither}
 use Rattle.turn.proofs.Laws.{passed, guard-refused, guard-passed}

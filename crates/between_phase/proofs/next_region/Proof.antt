@@ -6,7 +6,8 @@ use denote.Ref.{now}
 use borrow.Author.Tests.{lt-ltb, le-ltb}
 use Rattle.field.specs.Field.{fieldSize}
 use Rattle.selection.specs.Selection.{nextOf}
-use Rattle.session.specs.BetweenPhase.{entriesIn, betweenOf}
+use Rattle.entry.specs.Entry.{entriesIn}
+use Rattle.session.specs.BetweenPhase.{betweenOf}
 use Rattle.turn.proofs.Laws.{entry-within}
 use borrow.Author.Needs.{needs}
 use Rattle.between_phase.proofs.next_region.Statement.{statement}

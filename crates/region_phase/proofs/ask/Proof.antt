@@ -9,7 +9,7 @@ use Rattle.build.specs.declared.Request.the-variants as Q
 use Rattle.build.proofs.Laws.{build-long}
 use Rattle.session.specs.RegionPhase.{asksFor}
 use borrow.Author.Needs.{needs}
-use Rattle.region_phase.proofs.Laws.{memory-most}
+use Rattle.field.proofs.Laws.{memory-most}
 use Rattle.region_phase.proofs.ask.Statement.{statement}
 use Rattle.region_phase.proofs.ask.Tie as tie
 

@@ -30,7 +30,8 @@ answered : (c : tie.After-selects Inv-loop μ-loop) (b : Bool) → c .selects .r
 answered c b e =
     let a = c .before .before .before .before .before .before .before .before .args in
     let r = c .before .before .before .entry-at in
-    sym (selected-told (fieldSize (a .width)) (now (a .names)) (now (a .table)) (c .before .before .before .before .before .loop .i) (r .result) (r .ensures) (not-false _ (c .before .before .if1 .left)))
+    let i : ℕ = c .before .before .before .before .before .loop .i in
+    sym (selected-told (fieldSize (a .width)) (now (a .names)) (now (a .table)) i (r .result) (r .ensures) (not-false _ (c .before .before .if1 .left)))
     ∙ sym (c .selects .ensures)
     ∙ e
 
