@@ -108,7 +108,8 @@ extern "C" {
 #define WORGESLI_KIND_MEM_READ64 0x11u
 #define WORGESLI_KIND_READ_DATA64 0x12u
 
-/* why a step is refused: number, name (WORGESLI_REFUSED_...) and words (worgesli_refusal_text), the first that applies in the order of the requirement.
+/* why a step is refused: number, name (WORGESLI_REFUSED_...) and words (worgesli_refusal_text), the first that applies in the order of the requirement, in which 24
+ * stands where 22 does.
  * 1, 2, 3, 4 and 18 are the caller's: session and buffers are as they were, nothing is taken, and once the bundle or buffer is right the step can be made.
  * Each other ends the session: what was handed out of the open region is as it came, and not all of it. */
 #define WORGESLI_REFUSALS(X)                                                                                                 \
@@ -226,8 +227,15 @@ worgesli_stepped worgesli_step(worgesli_session session,
                                uint8_t *reply, size_t reply_len,
                                uint8_t *out, size_t out_len);
 
+/* an array of so many elements or more: of C a compiler may tell who lends fewer */
+#ifdef __cplusplus
+#define WORGESLI_LEAST(n) n
+#else
+#define WORGESLI_LEAST(n) static n
+#endif
+
 /* The same step of a session where it stands, and cheaper: its numbers from mode to phase, those from reads to width, and its window (worgesli_step_at). */
-worgesli_placed worgesli_step_in_place(uint32_t head[4], uint64_t numbers[9], uint8_t window[48],
+worgesli_placed worgesli_step_in_place(uint32_t head[WORGESLI_LEAST(4)], uint64_t numbers[WORGESLI_LEAST(9)], uint8_t window[WORGESLI_LEAST(48)],
                                        const uint8_t *delivery, size_t delivery_len,
                                        const uint8_t *set, size_t set_len,
                                        const uint8_t *names, size_t names_len,
@@ -245,7 +253,7 @@ bool worgesli_is_session(worgesli_session session);
 size_t worgesli_wanted(worgesli_session session);
 
 /* The same of a session where it stands, and cheaper (worgesli_wanted_at). */
-size_t worgesli_wanted_in_place(const uint32_t head[4], const uint64_t numbers[9], const uint8_t window[48]);
+size_t worgesli_wanted_in_place(const uint32_t head[WORGESLI_LEAST(4)], const uint64_t numbers[WORGESLI_LEAST(9)], const uint8_t window[WORGESLI_LEAST(48)]);
 
 /* 0: well formed; 1: an image set that is not; 2: a name list that is not. */
 uint32_t worgesli_check_images(const uint8_t *set, size_t set_len);
@@ -258,7 +266,7 @@ worgesli_range worgesli_image_range(const uint8_t *set, size_t set_len, uint64_t
 worgesli_entry worgesli_entry_at(const uint8_t *table, size_t table_len, uint64_t width, size_t i);
 
 /* The first selected entry from `from` on and before `entries`; where there is none, `entries` (`from` if that is not below it). No entry behind the
- * table's end is selected or looked at: `entries` may be SIZE_MAX. */
+ * table's end is selected or looked at: `entries` may be SIZE_MAX. Of a number that is no width none is selected. */
 size_t worgesli_next_selected(const uint8_t *table, size_t table_len, uint64_t width, size_t entries, const uint8_t *names, size_t names_len, size_t from);
 
 /* Whether the bytes are UTF-8. */

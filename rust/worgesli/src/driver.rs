@@ -284,6 +284,7 @@ impl Driver {
     /// The open region goes on from the byte `begun`: of what came behind it nothing is kept, here or by the sink.
     fn chunk_again(&mut self, begun: u64) {
         let s = self.session.raw();
+        let begun = begun.min(s.done);
         let handed = s.done - (self.from - self.kept) as u64;
         self.doubt = s.reads;
         self.from = self.kept + begun.saturating_sub(handed) as usize;

@@ -5,7 +5,7 @@
 use crate::driver::{Owed, Region, INPUT};
 use crate::session::{OUT, TABLE};
 use crate::sha256::Sha256;
-use crate::{raw, Driver, ImageSet, NameList, Options, Phase, Refusal, Session, Width};
+use crate::{parse_packet, raw, Body, Driver, ImageSet, NameList, Options, Phase, Refusal, Session, Width};
 use std::fmt;
 
 const MAGIC: &[u8; 8] = b"worgesli";
@@ -250,7 +250,7 @@ fn restored(mut d: Driver, mut from: From) -> Option<Driver> {
     (from.0.is_empty() && sound(&d)).then_some(d)
 }
 
-/// What is owed fits the buffers and the table, the table is the session's, and no more is gathered than came of the open region.
+/// What is owed fits the buffers and the table, no more is gathered than came of the open region, and a dump is that of its table.
 fn sound(d: &Driver) -> bool {
     let entry = |place| crate::entry_at(&d.table, d.session.width(), place).is_some();
     let owed = match d.owed {
@@ -259,21 +259,47 @@ fn sound(d: &Driver) -> bool {
         Owed::Open(place) | Owed::Close(place) => entry(place),
         _ => true,
     };
-    let table = match d.session.phase() {
-        Phase::Table | Phase::Between | Phase::Region => d.table_len == d.session.raw().count,
+    let open = match d.region {
+        Region::None => d.from == 0,
+        _ => entry(d.place) && d.from as u64 <= d.done(),
+    };
+    let s = d.session.raw();
+    let dump = match d.session.phase() {
+        Phase::Table => asked_for(d) && s.at <= s.count,
+        Phase::Between => asked_for(d),
+        Phase::Region => asked_for(d) && entry_is(d, s),
         _ => true,
     };
-    owed && table
-        && match d.region {
-            Region::None => d.from == 0,
-            _ => entry(d.place) && d.from as u64 <= d.done(),
-        }
+    owed && open && dump
+}
+
+/// The table is as long as the session says, and was asked for with a memory read of its width and length.
+fn asked_for(d: &Driver) -> bool {
+    let len = match (parse_packet(&d.table_read).map(|p| p.body), d.session.width()) {
+        (Ok(Body::ReadMemReq { len, .. }), Width::Bits32) => len.into(),
+        (Ok(Body::ReadMem64Req { len, .. }), Width::Bits64) => len,
+        _ => return false,
+    };
+    let count = d.session.raw().count;
+    d.table_len == count && len == count as u64
+}
+
+/// The region at hand is the table's.
+fn entry_is(d: &Driver, s: &raw::Session) -> bool {
+    crate::entry_at(d.table(), d.session.width(), s.at).is_some_and(|e| (e.base, e.len) == (s.base, s.len))
 }
 
 #[cfg(test)]
 mod tests {
     use super::*;
-    use crate::{Backend, Mode};
+    use crate::{Backend, Count, Mode};
+    use device::{Device, Division, Memory, Wire};
+
+    /// Where the session begins, its width and the memory reads stand, and where a region's last request began.
+    const SESSION: usize = MAGIC.len() + 8 + DIGEST;
+    const READS: usize = SESSION + 4 * 8;
+    const WIDTH: usize = SESSION + 12 * 8;
+    const ASKED: usize = WIDTH + 8 + 48 + 5 * 8;
 
     /// The same bytes with another number at a place, and the sum of them.
     fn with(saved: &[u8], at: usize, number: u64) -> Vec<u8> {
@@ -294,11 +320,51 @@ mod tests {
         }
         // without a width these bytes are too many
         assert_eq!(options.restore(&with(&saved, form, WITHOUT_WIDTH)).unwrap_err(), RestoreError::Damaged);
-        let width = form + 8 + DIGEST + 12 * 8;
-        assert_eq!(with(&saved, width, 64), saved);
-        assert_eq!(options.restore(&with(&saved, width, 32)).unwrap().session().width(), Width::Bits32);
+        assert_eq!(with(&saved, WIDTH, 64), saved);
+        assert_eq!(options.restore(&with(&saved, WIDTH, 32)).unwrap().session().width(), Width::Bits32);
         for other in [0, 33, 1 << 32 | 32, u64::MAX] {
-            assert_eq!(options.restore(&with(&saved, width, other)).unwrap_err(), RestoreError::Damaged);
+            assert_eq!(options.restore(&with(&saved, WIDTH, other)).unwrap_err(), RestoreError::Damaged);
         }
+    }
+
+    /// In a dump the width is that of the memory read that asked for the table: another one would take other bytes for entries.
+    #[test]
+    fn another_width_in_a_dump() {
+        for width in device::Width::BOTH {
+            let regions = [device::Region::new("A.BIN", 64, 600), device::Region::new("B.BIN", 700, 5000)];
+            let mut wire = Wire::new(Device::dump(Memory::of(width, 1, 0x1000, &regions)), Division::AtMost(100), 1);
+            let options = Options::new(Backend::Usb, Mode::MemoryDebug);
+            let (mut run, mut sink, mut tried) = (options.start().unwrap(), Count::default(), [0; 7]);
+            while run.step(&mut wire, &mut sink, |_| ()).unwrap().is_none() {
+                let (saved, phase) = (run.save(), run.session().phase());
+                assert_eq!(options.restore(&saved).unwrap().save(), saved);
+                if let Phase::Table | Phase::Between | Phase::Region = phase {
+                    let other = 96 - run.session().width() as u64;
+                    assert_eq!(options.restore(&with(&saved, WIDTH, other)).unwrap_err(), RestoreError::Damaged);
+                    tried[phase as usize] += 1;
+                }
+            }
+            assert!(tried[3] > 0 && tried[4] > 1 && tried[5] > 50, "{tried:?}");
+        }
+    }
+
+    /// Numbers that no run has are refused or borne, also by a resync: they make no panic.
+    #[test]
+    fn numbers_that_no_run_has() {
+        let regions = [device::Region::new("B.BIN", 700, 5000)];
+        let device = || Wire::new(Device::dump(Memory::of(device::Width::Bits32, 1, 0x1000, &regions)), Division::AtMost(20), 1);
+        let options = Options::new(Backend::Serial, Mode::MemoryDebug);
+        let (mut wire, mut run, mut tried) = (device(), options.start().unwrap(), 0);
+        while run.step(&mut wire, &mut Count::default(), |_| ()).unwrap().is_none() {
+            for (at, number) in [(ASKED, u64::MAX), (READS, u64::MAX), (READS + 16, u64::MAX), (READS + 8, 1 << 40)] {
+                if let Ok(mut other) = options.restore(&with(&run.save(), at, number)) {
+                    let (mut wire, mut sink) = (device(), Count::default());
+                    let _ = (other.entries().count(), other.resync(&mut wire, &mut sink), other.save());
+                    let _ = (other.step(&mut wire, &mut sink, |_| ()), other.close(&mut sink), other.save());
+                    tried += 1;
+                }
+            }
+        }
+        assert!(tried > 500, "{tried}");
     }
 }

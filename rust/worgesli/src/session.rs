@@ -104,7 +104,7 @@ impl Session {
 
     /// A session whose table is asked for anew: none of it is there, and one memory read more is sent.
     pub(crate) fn table_begun(&self) -> Session {
-        Session(raw::Session { phase: Phase::Table as u32, at: 0, reads: self.0.reads + 1, ..self.0 })
+        Session(raw::Session { phase: Phase::Table as u32, at: 0, reads: self.0.reads.saturating_add(1), ..self.0 })
     }
 
     /// Memory reads since opening.

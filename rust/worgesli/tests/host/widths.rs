@@ -25,6 +25,17 @@ fn fetched(width: Width, memory: impl Fn() -> Memory, regions: &[Region], names:
     }
 }
 
+/// A fetch in steps, each by a run that was restored from the one before.
+fn restored(memory: Memory, names: &[&str]) {
+    let options = Options::new(Backend::Usb, Mode::MemoryDebug).names(names);
+    let (mut wire, mut sink) = (Wire::new(Device::dump(memory), Division::Whole, 7), Record::default());
+    let mut run = options.start().unwrap();
+    while run.step(&mut wire, &mut sink, |_| ()).unwrap().is_none() {
+        run = options.restore(&run.save()).unwrap();
+    }
+    assert_eq!((sink.0.len(), wire.device.wrong(), wire.device.queued()), (1, None, 0));
+}
+
 /// The longest table: 1,260 entries of 52 bytes and 16 bytes more, or 1,024 of 64. The last one is fetched, by preference and by name.
 #[test]
 fn last_entry_of_the_longest_table() {
@@ -36,7 +47,9 @@ fn last_entry_of_the_longest_table() {
             regions.push(last);
             let mut table: Vec<u8> = regions.iter().flat_map(|r| r.bytes(width)).collect();
             table.resize(65_536, 0xff);
-            fetched(width, || Memory::with_table(1, width.half(), table.clone()).wide(width), &regions, names);
+            let memory = || Memory::with_table(1, width.half(), table.clone()).wide(width);
+            fetched(width, memory, &regions, names);
+            restored(memory(), names);
             regions.pop();
         }
     }
