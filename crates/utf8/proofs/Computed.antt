@@ -1,11 +1,14 @@
--- The class of a byte, at each byte of a range by one computed test, with a test that two classes are the same. Assumes nothing.
+-- The rule of an array of classes by one computed test, with a test that two classes are the same. Assumes nothing.
 use mathlib.Core.Path.{_≡_, refl, ap}
 use mathlib.Core.Bool.{Bool, true, false}
-use Prim.Native.Nat.{ℕ, _+_, _<_, _≤_}
+use Prim.Native.Nat.{ℕ}
+use native.Mathlib.Omega.{arith}
+use mathlib.Core.List.{List}
 use lib.Dec.{T, eqb, eqb→eq}
+use lib.ListN.{getD}
 use Rattle.base.specs.Choice.{pick}
 use Rattle.base.proofs.Ranges.{both-left, both-right, every, in-range}
-use Rattle.utf8.specs.Classes.{follow, leadOf}
+use Rattle.utf8.specs.Classes.{follow, leadOf, classOf, Rule}
 use Rattle.utf8.specs.declared.Class.{Class}
 use Rattle.utf8.specs.declared.Class.the-variants as C
 
@@ -29,6 +32,9 @@ same-eq (C.Is f) (C.Is g) t =
     let e : follow (f .more) (f .low) (f .high) ≡ follow (g .more) (g .low) (g .high) = rw (m, l, h) refl in
     ap C.Is e
 
--- a class that the definition has at each of the k bytes from lo is the class of each
-pub class-in : (x : Class) (lo k n : ℕ) → T (every (λ (b : ℕ). same x (leadOf b)) lo k) → lo ≤ n → n < lo + k → x ≡ leadOf n
-class-in x lo k n t a b = same-eq x (leadOf n) (in-range (λ (m : ℕ). same x (leadOf m)) lo k n t a b)
+-- the rule of an array of classes, by one test of all its 256 letters
+pub rule-of : (letters : List ℕ) → T (every (λ (b : ℕ). same (classOf (getD letters b 0)) (leadOf b)) 0 256) → Rule letters
+unfolding Rule
+rule-of letters t b h =
+    same-eq (classOf (getD letters b 0)) (leadOf b)
+    (in-range (λ (n : ℕ). same (classOf (getD letters n 0)) (leadOf n)) 0 256 b t (omega arith) (omega arith))

@@ -1,8 +1,10 @@
 -- Table 3-7 told as the classes that code goes by: whether a byte leads a sequence, how many bytes follow it, and which the second may be.
-use Prim.Native.Nat.{ℕ, suc, _-_}
+use mathlib.Core.Path.{_≡_}
+use mathlib.Core.Bool.{Bool, true, false}
+use Prim.Native.Nat.{ℕ, zero, suc, _+_, _*_, _/_, _%_, _<_}
 use mathlib.Core.List.{List, [], _∷_}
-use lib.ListN.{length}
-use lib.Dec.{leb, eqb}
+use lib.ListN.{length, getD}
+use lib.Dec.{eqb}
 use Rattle.base.specs.Choice.{pick}
 use Rattle.utf8.specs.Utf8.{Range, from, within, table, leads, afterFirst}
 use Rattle.utf8.specs.declared.Follow.{Follow}
@@ -22,14 +24,25 @@ followOf (r ∷ rs) = follow (suc (length rs)) (r .low) (r .high)
 unfoldable pub leadOf : ℕ → Class
 leadOf b = pick (leads table b) (C.Is (followOf (afterFirst table b))) C.Not
 
--- what a byte is where f is to come: a lead byte where nothing is, else one of the first range
-unfoldable pub classAfter : Follow → ℕ → Class
-classAfter f b =
-    pick (eqb (f .more) 0)
-    (leadOf b)
-    (pick (within (from (f .low) (f .high)) b) (C.Is (follow (f .more - 1) 0x80 0xBF)) C.Not)
+-- the class that a letter stands for: none for '.', else by its bits, how many bytes follow and the first digits of the second byte's range
+unfoldable pub classOf : ℕ → Class
+classOf c = pick (eqb c 0x2E) C.Not (C.Is (follow (c % 4) (0x80 + 16 * (c / 4 % 4)) (0x8F + 16 * (c / 16 % 4))))
 
--- the ASCII beginning: how many bytes stand before the first above 0x7F, all where there is none
-unfoldable pub asciiRun : List ℕ → ℕ
-asciiRun [] = 0
-asciiRun (b ∷ bs) = pick (leb b 0x7F) (suc (asciiRun bs)) 0
+-- document 02, request 3: the rule of a table of 256 classes, indexed by the lead byte: at each byte stands its class, a letter
+unfoldable pub Rule : List ℕ → Type 0
+Rule letters = (b : ℕ) → b < 256 → classOf (getD letters b 0) ≡ leadOf b
+
+-- the ranges of n bytes to come, the first of them low..high; those behind it are 0x80..0xBF
+unfoldable pub pending : ℕ → ℕ → ℕ → List Range
+pending zero low high = []
+pending (suc n) low high = from low high ∷ pending n 0x80 0xBF
+
+-- the ranges that a class stands for
+abbrev pub rangesOf : Follow → List Range
+rangesOf f = pending (f .more) (f .low) (f .high)
+
+-- whether bytes begin with one of each of the ranges
+unfoldable pub comes : List Range → List ℕ → Bool
+comes [] bs = true
+comes (r ∷ rs) [] = false
+comes (r ∷ rs) (b ∷ bs) = pick (within r b) (comes rs bs) false

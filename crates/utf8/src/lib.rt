@@ -1,92 +1,174 @@
 // UTF-8 after Unicode's table 3-7.
 ghost use mathlib.Core.Path.{_≡_};
-ghost use Rattle.utf8.specs.Utf8.{utf8};
-ghost use Rattle.utf8.specs.Classes.{follow, leadOf, classAfter, asciiRun};
+ghost use Prim.Native.Nat.{_+_, _<_, _≤_};
+ghost use lib.ListN.{length, getD, drop};
+ghost use Rattle.base.specs.Choice.{pick};
+ghost use Rattle.utf8.specs.Utf8.{from, within, utf8};
+ghost use Rattle.utf8.specs.Classes.{leadOf, Rule, rangesOf, comes};
 
-// What is still to come of a sequence: how many bytes, and the range of the first of them; those behind it are 0x80..=0xBF.
+// What follows a lead byte: how many bytes, and the range of the first of them; those behind it are 0x80..=0xBF.
 pub struct Follow {
     pub more: usize,
     pub low: u8,
     pub high: u8,
 }
 
-// Whether a byte may stand at its place, and what is to come after it.
+// Whether a byte leads a sequence, and what follows it.
 pub enum Class {
     Not,
     Is(Follow),
 }
 
-// A byte that may stand, with more bytes to come after it, the first of them low..=high.
-fn follows(more: usize, low: u8, high: u8) -> Class
-    ensures { λ r. ⌜ r ≡ Class.Is (follow more low high) ⌝ }
-{
-    Class::Is(Follow { more, low, high })
-}
+// The class of each lead byte, a letter, sixteen to a line. In this order, with what table 3-7 has behind the lead byte:
+//
+//     00..7F  0
+//     80..C1  .  leads nothing
+//     C2..DF  1  80..BF
+//     E0      z  A0..BF  80..BF
+//     E1..EC  2  80..BF  80..BF
+//     ED      R  80..9F  80..BF
+//     EE..EF  2  80..BF  80..BF
+//     F0      w  90..BF  80..BF  80..BF
+//     F1..F3  3  80..BF  80..BF  80..BF
+//     F4      C  80..8F  80..BF  80..BF
+//     F5..FF  .  leads nothing
+//
+// The letters are taken for their bits: the lowest two tell how many bytes follow, the next two where the second byte's range begins and the next two
+// where it ends, in sixteens from 0x80. That each stands for its byte's class is `Rule`, computed at all 256 where the array is lent.
+const LEADS: [u8; 256] = *b"\
+    0000000000000000\
+    0000000000000000\
+    0000000000000000\
+    0000000000000000\
+    0000000000000000\
+    0000000000000000\
+    0000000000000000\
+    0000000000000000\
+    ................\
+    ................\
+    ................\
+    ................\
+    ..11111111111111\
+    1111111111111111\
+    z222222222222R22\
+    w333C...........";
 
-// The class of a lead byte.
-pub fn lead(b: u8) -> Class
+// The class of a lead byte, read from the array.
+fn lead(leads: &[u8; 256], b: u8) -> Class
+    requires { ⌜ Rule (now leads) ⌝ }
     ensures { λ r. ⌜ r ≡ leadOf b ⌝ }
 {
-    match b {
-        0x00..=0x7F => follows(0, 0x80, 0xBF),
-        0xC2..=0xDF => follows(1, 0x80, 0xBF),
-        0xE0 => follows(2, 0xA0, 0xBF),
-        0xE1..=0xEC => follows(2, 0x80, 0xBF),
-        0xED => follows(2, 0x80, 0x9F),
-        0xEE..=0xEF => follows(2, 0x80, 0xBF),
-        0xF0 => follows(3, 0x90, 0xBF),
-        0xF1..=0xF3 => follows(3, 0x80, 0xBF),
-        0xF4 => follows(3, 0x80, 0x8F),
-        _ => Class::Not,
+    let c = leads[b as usize];
+    if c == b'.' {
+        return Class::Not;
     }
+    Class::Is(Follow {
+        more: (c % 4) as usize,
+        low: 0x80 + 16 * (c / 4 % 4),
+        high: 0x8F + 16 * (c / 16 % 4),
+    })
 }
 
-// A byte where f is to come: the next of a sequence, or a lead byte.
-fn next(f: Follow, b: u8) -> Class
-    ensures { λ r. ⌜ r ≡ classAfter f b ⌝ }
+// Whether a byte may stand behind a lead byte.
+fn continues(b: u8) -> bool
+    ensures { λ r. ⌜ r ≡ within (from 0x80 0xBF) b ⌝ }
+{
+    if b < 0x80 {
+        return false;
+    }
+    b <= 0xBF
+}
+
+// The place behind the bytes that follow, which are to stand at i; 0 where they do not.
+fn behind(f: Follow, s: &[u8], i: usize) -> usize
+    requires { ⌜ (f .more ≤ 3) × (i ≤ length (now s)) ⌝ }
+    ensures { λ r. ⌜ r ≡ pick (comes (rangesOf f) (drop i (now (s .entry)))) (i + f .more) 0 ⌝ }
 {
     if f.more == 0 {
-        return lead(b);
+        return i;
     }
-    if b < f.low {
-        return Class::Not;
+    if s.len() - i < f.more {
+        return 0;
     }
-    if f.high < b {
-        return Class::Not;
+    if s[i] < f.low {
+        return 0;
     }
-    follows(f.more - 1, 0x80, 0xBF)
+    if f.high < s[i] {
+        return 0;
+    }
+    if f.more == 1 {
+        return i + 1;
+    }
+    if !continues(s[i + 1]) {
+        return 0;
+    }
+    if f.more == 2 {
+        return i + 2;
+    }
+    if !continues(s[i + 2]) {
+        return 0;
+    }
+    i + 3
 }
 
-// The ASCII beginning: how many bytes stand before the first above 0x7F, all where there is none.
-fn ascii_run(s: &[u8]) -> usize
-    ensures { λ r. ⌜ r ≡ asciiRun (now (s .entry)) ⌝ }
+// Whether the bytes from `at` on are UTF-8, one sequence after the other.
+fn sequences(s: &[u8], at: usize) -> bool
+    ensures { λ r. ⌜ r ≡ utf8 (drop at (now (s .entry))) ⌝ }
 {
-    let mut i: usize = 0;
+    let leads = LEADS;
+    let mut i = at;
     while i < s.len() {
-        if 0x7F < s[i] {
-            return i;
+        let Class::Is(f) = lead(&leads, s[i]) else {
+            return false;
+        };
+        i = behind(f, s, i + 1);
+        if i == 0 {
+            return false;
         }
-        i += 1;
     }
-    i
+    true
 }
 
-// Whether the bytes are UTF-8: it is for those behind the ASCII beginning to say.
+// Whether the bytes from `at` on are UTF-8, the first of them above ASCII: a byte that may stand behind a lead byte has to follow it. Many texts that
+// are not UTF-8 end here, before the array is needed, which is made anew for each text.
+fn above_ascii(s: &[u8], at: usize) -> bool
+    requires { ⌜ (at < length (now s)) × (0x7F < getD (now s) at 0) ⌝ }
+    ensures { λ r. ⌜ r ≡ utf8 (drop at (now (s .entry))) ⌝ }
+{
+    if s.len() - at < 2 {
+        return false;
+    }
+    if !continues(s[at + 1]) {
+        return false;
+    }
+    sequences(s, at)
+}
+
+// Whether the bytes are UTF-8. ASCII is passed over, four bytes at a turn.
 pub fn valid(s: &[u8]) -> bool
     ensures { λ r. ⌜ r ≡ utf8 (now (s .entry)) ⌝ }
 {
-    let mut f = Follow {
-        more: 0,
-        low: 0x80,
-        high: 0xBF,
-    };
-    let mut i = ascii_run(s);
+    let mut i: usize = 0;
+    while 4 <= s.len() - i {
+        if 0x7F < s[i] {
+            return above_ascii(s, i);
+        }
+        if 0x7F < s[i + 1] {
+            return above_ascii(s, i + 1);
+        }
+        if 0x7F < s[i + 2] {
+            return above_ascii(s, i + 2);
+        }
+        if 0x7F < s[i + 3] {
+            return above_ascii(s, i + 3);
+        }
+        i += 4;
+    }
     while i < s.len() {
-        let Class::Is(n) = next(f, s[i]) else {
-            return false;
-        };
-        f = n;
+        if 0x7F < s[i] {
+            return above_ascii(s, i);
+        }
         i += 1;
     }
-    f.more == 0
+    true
 }

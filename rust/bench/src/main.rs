@@ -1,6 +1,8 @@
 //! Prints what the host costs. `cargo run --release -p bench`
 //!
 //! `bench once bare|worgesli serial|usb MIB [32]` makes one fetch, of a device of 64 bits or 32, and prints nothing, for a count of its instructions.
+//! `bench utf8` prints the UTF-8 test alone.
+mod names;
 mod steps;
 
 use bench::{fetches, table, Bare, Files, Host, Keep, Setting, Worgesli};
@@ -55,6 +57,10 @@ fn main() -> std::io::Result<()> {
         once(rest);
         return Ok(());
     }
+    if args == ["utf8"] {
+        names::print();
+        return Ok(());
+    }
     for (name, backend) in [("serial", Backend::Serial), ("USB", Backend::Usb)] {
         let setting = Setting::new(backend, 64 * MIB);
         let mut hosts = (Bare(Keep::Count), Worgesli(Keep::Count));
@@ -88,5 +94,6 @@ fn main() -> std::io::Result<()> {
     steps::print(Width::Bits64, 1, 0);
     steps::print(Width::Bits64, 1024, 64);
     steps::print(Width::Bits32, 1260, 64);
+    names::print();
     Ok(())
 }
