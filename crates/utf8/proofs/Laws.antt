@@ -1,5 +1,5 @@
--- Laws of UTF-8: what a class stands for, one sequence at a time, that an ASCII beginning may be skipped, and that a text may be cut before
--- any ASCII byte. Assumes nothing.
+-- Laws of UTF-8: what a class stands for, one sequence at a time, that an ASCII byte may be passed over, and that a text may be cut before any
+-- ASCII byte. Assumes nothing.
 use mathlib.Core.Path.{_≡_, refl, sym, ap, _∙_}
 use mathlib.Core.Bool.{Bool, true, false}
 use mathlib.Core.Logic.{⊎-elim}
@@ -8,12 +8,12 @@ use Prim.Native.Nat.{ℕ, zero, suc, _+_, _-_, _<_, _≤_}
 use native.Mathlib.Omega.{arith}
 use native.Mathlib.Numerals.{add-one}
 use lib.Dec.{T, leb, leb→le}
-use lib.ListN.{length, getD, take, drop, drop-of-length-le}
+use lib.ListN.{length, getD, List·getD-eq-default, take, drop, drop-of-length-le}
 use lib.Seq.{split-at, drop-cons, drop-drop}
 use borrow.Author.Tests.{le-leb, lt-leb}
 use Rattle.base.specs.Choice.{pick}
 use Rattle.utf8.specs.Utf8.{Range, from, within, Row, table, leads, afterFirst, goesOn, utf8}
-use Rattle.utf8.specs.Classes.{follow, followOf, leadOf, pending, rangesOf, comes}
+use Rattle.utf8.specs.Classes.{followOf, leadOf, pending, rangesOf, comes}
 use Rattle.utf8.specs.declared.Follow.{Follow}
 use Rattle.utf8.specs.declared.Class.{Class}
 use Rattle.utf8.specs.declared.Class.the-variants as C
@@ -36,7 +36,7 @@ after-each P [] b e = e
 after-each P (r ∷ rs) b e = chosen P (within (r .first) b) (r .after) (afterFirst rs b) (e .0) (after-each P rs b (e .1))
 
 -- a class of the table stands for the ranges that the table has
-pub ranges-follow : (b : ℕ) → rangesOf (followOf (afterFirst table b)) ≡ afterFirst table b
+ranges-follow : (b : ℕ) → rangesOf (followOf (afterFirst table b)) ≡ afterFirst table b
 unfolding table pending
 ranges-follow b =
     after-each (λ (rs : List Range). rangesOf (followOf rs) ≡ rs) table b
@@ -177,14 +177,16 @@ ascii-leads b bs h = rw (le-leb 0 b (omega arith), le-leb b 0x7F h) refl
 pub passed : (s : List ℕ) (i j : ℕ) → j ≡ i + 1 → i < length s → getD s i 0 ≤ 0x7F → utf8 (drop i s) ≡ utf8 s → utf8 (drop j s) ≡ utf8 s
 passed s i j e l h k = rw (e, add-one) (sym (ascii-leads (getD s i 0) (drop (suc i) s) h) ∙ rw (drop-cons s i 0 l) at k)
 
--- where a byte above ASCII leads, one of 0x80..0xBF follows it
+-- the second byte is one of 0x80..0xBF
 abbrev second : Follow → Bool
 second f = pick (leb 0x80 (f .low)) (leb (f .high) 0xBF) false
 
+-- a second byte follows
 abbrev followed : Class → Bool
 followed C.Not = true
 followed (C.Is f) = pick (leb 1 (f .more)) (second f) false
 
+-- so it is where a byte above ASCII leads
 above-ascii : (b : ℕ) → 0x7F < b → b < 256 → T (followed (leadOf b))
 unfolding leadOf table leads afterFirst
 above-ascii b l h = in-range (λ (n : ℕ). followed (leadOf n)) 0x80 0x80 b tt l (omega arith)
@@ -194,14 +196,7 @@ in-bounds r b e =
     let t : T (within r b) = rw e tt in
     (leb→le (r .low) b (both-left (leb (r .low) b) (leb b (r .high)) t), leb→le b (r .high) (both-right (leb (r .low) b) (leb b (r .high)) t))
 
--- one with nothing behind it is no sequence
-not-alone : (x : Class) (s : List ℕ) (i : ℕ) → T (followed x) → length s ≤ i → goesBy x (drop i s) ≡ false
-not-alone C.Not s i t h = refl
-not-alone (C.Is f) s i t h =
-    let m = leb→le 1 (f .more) (both-left (leb 1 (f .more)) (second f) t) in
-    rw (too-few (f .more) (f .low) (f .high) s i (omega arith)) refl
-
--- nor is one with another byte behind it
+-- with another byte, or none, behind it there is no sequence
 not-followed : (x : Class) (s : List ℕ) (i : ℕ) → T (followed x) → within (from 0x80 0xBF) (getD s i 0) ≡ false → goesBy x (drop i s) ≡ false
 not-followed C.Not s i t w = refl
 not-followed (C.Is f) s i t w =
@@ -221,11 +216,12 @@ module _ (s : List ℕ) (i : ℕ) (l : i < length s) (a : 0x7F < getD s i 0) (h 
   turn : utf8 (drop i s) ≡ goesBy (leadOf (getD s i 0)) (drop (i + 1) s)
   turn = goes-turn s i (leadOf (getD s i 0)) l refl
 
-  pub alone : length s - i < 2 → utf8 (drop i s) ≡ false
-  alone e = turn ∙ not-alone (leadOf (getD s i 0)) s (i + 1) (above-ascii (getD s i 0) a h) (omega arith)
-
   pub unfollowed : within (from 0x80 0xBF) (getD s (i + 1) 0) ≡ false → utf8 (drop i s) ≡ false
   unfollowed e = turn ∙ not-followed (leadOf (getD s i 0)) s (i + 1) (above-ascii (getD s i 0) a h) e
+
+  -- none stands behind the end, where 0 is read
+  pub alone : length s - i < 2 → utf8 (drop i s) ≡ false
+  alone e = unfollowed (rw (List·getD-eq-default s 0 {n = i + 1} (omega arith)) refl)
 
 -- each range to come is above ASCII
 abbrev high : List Range → Bool

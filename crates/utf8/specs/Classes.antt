@@ -24,11 +24,12 @@ followOf (r ∷ rs) = follow (suc (length rs)) (r .low) (r .high)
 unfoldable pub leadOf : ℕ → Class
 leadOf b = pick (leads table b) (C.Is (followOf (afterFirst table b))) C.Not
 
--- the class that a letter stands for: none for '.', else by its bits, how many bytes follow and the first digits of the second byte's range
+-- the class that a letter stands for: '.' leads nothing; else the bits tell how many bytes follow and the first hexadecimal digits of the second byte's
+-- range, from 8
 unfoldable pub classOf : ℕ → Class
 classOf c = pick (eqb c 0x2E) C.Not (C.Is (follow (c % 4) (0x80 + 16 * (c / 4 % 4)) (0x8F + 16 * (c / 16 % 4))))
 
--- document 02, request 3: the rule of a table of 256 classes, indexed by the lead byte: at each byte stands its class, a letter
+-- document 02, request 3: in an array of 256 letters, indexed by the lead byte, each stands for its byte's class
 unfoldable pub Rule : List ℕ → Type 0
 Rule letters = (b : ℕ) → b < 256 → classOf (getD letters b 0) ≡ leadOf b
 
@@ -41,7 +42,7 @@ pending (suc n) low high = from low high ∷ pending n 0x80 0xBF
 abbrev pub rangesOf : Follow → List Range
 rangesOf f = pending (f .more) (f .low) (f .high)
 
--- whether bytes begin with one of each of the ranges
+-- whether bytes begin with one byte of each of the ranges, in order
 unfoldable pub comes : List Range → List ℕ → Bool
 comes [] bs = true
 comes (r ∷ rs) [] = false

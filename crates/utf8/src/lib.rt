@@ -19,7 +19,8 @@ pub enum Class {
     Is(Follow),
 }
 
-// The class of each lead byte, a letter, sixteen to a line. In this order, with what table 3-7 has behind the lead byte:
+// The class of each lead byte, a letter: the line is the byte's first hexadecimal digit, the place in it the second. In this order, with what table 3-7
+// has behind the lead byte:
 //
 //     00..7F  0
 //     80..C1  .  leads nothing
@@ -33,9 +34,10 @@ pub enum Class {
 //     F4      C  80..8F  80..BF  80..BF
 //     F5..FF  .  leads nothing
 //
-// The letters are taken for their bits: the lowest two tell how many bytes follow, the next two where the second byte's range begins and the next two
-// where it ends, in sixteens from 0x80. That each stands for its byte's class is `Rule`, computed at all 256 where the array is lent.
-const LEADS: [u8; 256] = *b"\
+// '.' leads nothing. Of any other letter the lowest two bits tell how many bytes follow, the next two the first digit of the second byte's least value and
+// the next two that of its greatest, counted from 8 (the second digits are 0 and F); the highest two tell nothing. That each letter stands for its byte's
+// class is `Rule`, computed at all 256 where the array is lent (`lead-requires` of proofs/sequences).
+const CLASSES: [u8; 256] = *b"\
     0000000000000000\
     0000000000000000\
     0000000000000000\
@@ -54,11 +56,11 @@ const LEADS: [u8; 256] = *b"\
     w333C...........";
 
 // The class of a lead byte, read from the array.
-fn lead(leads: &[u8; 256], b: u8) -> Class
-    requires { ⌜ Rule (now leads) ⌝ }
+fn lead(classes: &[u8; 256], b: u8) -> Class
+    requires { ⌜ Rule (now classes) ⌝ }
     ensures { λ r. ⌜ r ≡ leadOf b ⌝ }
 {
-    let c = leads[b as usize];
+    let c = classes[b as usize];
     if c == b'.' {
         return Class::Not;
     }
@@ -69,7 +71,7 @@ fn lead(leads: &[u8; 256], b: u8) -> Class
     })
 }
 
-// Whether a byte may stand behind a lead byte.
+// Whether a byte is one of 0x80..=0xBF, as those behind a lead byte are.
 fn continues(b: u8) -> bool
     ensures { λ r. ⌜ r ≡ within (from 0x80 0xBF) b ⌝ }
 {
@@ -79,9 +81,9 @@ fn continues(b: u8) -> bool
     b <= 0xBF
 }
 
-// The place behind the bytes that follow, which are to stand at i; 0 where they do not.
+// Where the bytes that follow a lead byte, which are to begin at i, end; 0 where they are not there.
 fn behind(f: Follow, s: &[u8], i: usize) -> usize
-    requires { ⌜ (f .more ≤ 3) × (i ≤ length (now s)) ⌝ }
+    requires { ⌜ (f .more ≤ 3) × (0 < i) × (i ≤ length (now s)) ⌝ }
     ensures { λ r. ⌜ r ≡ pick (comes (rangesOf f) (drop i (now (s .entry)))) (i + f .more) 0 ⌝ }
 {
     if f.more == 0 {
@@ -115,10 +117,10 @@ fn behind(f: Follow, s: &[u8], i: usize) -> usize
 fn sequences(s: &[u8], at: usize) -> bool
     ensures { λ r. ⌜ r ≡ utf8 (drop at (now (s .entry))) ⌝ }
 {
-    let leads = LEADS;
+    let classes = CLASSES;
     let mut i = at;
     while i < s.len() {
-        let Class::Is(f) = lead(&leads, s[i]) else {
+        let Class::Is(f) = lead(&classes, s[i]) else {
             return false;
         };
         i = behind(f, s, i + 1);
@@ -129,8 +131,8 @@ fn sequences(s: &[u8], at: usize) -> bool
     true
 }
 
-// Whether the bytes from `at` on are UTF-8, the first of them above ASCII: a byte that may stand behind a lead byte has to follow it. Many texts that
-// are not UTF-8 end here, before the array is needed, which is made anew for each text.
+// Whether the bytes from `at` on are UTF-8, the first of them above ASCII: one of 0x80..=0xBF has to follow it. Many texts that are not UTF-8 end here,
+// before the array is needed, which is made anew for each text.
 fn above_ascii(s: &[u8], at: usize) -> bool
     requires { ⌜ (at < length (now s)) × (0x7F < getD (now s) at 0) ⌝ }
     ensures { λ r. ⌜ r ≡ utf8 (drop at (now (s .entry))) ⌝ }

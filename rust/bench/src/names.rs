@@ -5,9 +5,9 @@ use std::time::Instant;
 use worgesli::raw;
 
 /// What is judged, and its bytes: a name, or several that are judged by turns.
-pub struct Names {
-    pub what: &'static str,
-    pub bytes: Vec<[u8; 20]>,
+struct Names {
+    what: &'static str,
+    bytes: Vec<[u8; 20]>,
 }
 
 /// The first 20 bytes, zeros behind them where there are fewer.
@@ -34,7 +34,7 @@ fn by_chance(spoiled: bool) -> Vec<[u8; 20]> {
     (0..1024).map(|_| name()).collect()
 }
 
-pub fn all() -> Vec<Names> {
+fn all() -> Vec<Names> {
     let one = |what, name: &[u8]| Names { what, bytes: vec![twenty(name)] };
     vec![
         one("ASCII", b"DDRCS0_0.BIN"),
@@ -44,7 +44,7 @@ pub fn all() -> Vec<Names> {
         one("two bytes", "εγγραφή.bin".as_bytes()),
         one("three bytes", "録音機の記.bin".as_bytes()),
         one("four bytes", "🎙🎧🎚🎛.bin".as_bytes()),
-        one("each length", "aé日🎙bü本🎧c".as_bytes()),
+        one("each length", "aé日🎙bü本🎧".as_bytes()),
         Names { what: "1,024 names of each length by turns", bytes: by_chance(false) },
         one("not UTF-8: ISO 8859-1", b"Pr\xfcfstand_S\xfcd.bin"),
         one("not UTF-8: Shift JIS", b"\x98\x5e\x89\xb9\x8b\x40.bin"),
@@ -57,10 +57,10 @@ pub fn all() -> Vec<Names> {
 }
 
 /// A test of bytes.
-pub type Test<'a> = &'a dyn Fn(&[u8]) -> bool;
+type Test<'a> = &'a dyn Fn(&[u8]) -> bool;
 
 /// The least nanoseconds that a name takes each test: the tests take turns, 300 times, at 1,024 names each.
-pub fn least(names: &Names, tests: &[Test]) -> Vec<f64> {
+fn least(names: &Names, tests: &[Test]) -> Vec<f64> {
     let mut least = vec![f64::MAX; tests.len()];
     let turns = 1024 / names.bytes.len();
     for _ in 0..300 {
@@ -81,6 +81,8 @@ pub fn print() {
     println!("UTF-8, 20 bytes, ns (least of 300 batches of 1,024): this host, std::str::from_utf8");
     let library = |name: &[u8]| std::str::from_utf8(name).is_ok();
     for names in all() {
+        let good = !names.what.starts_with("not UTF-8");
+        assert!(names.bytes.iter().all(|name| raw::utf8(name) == good && library(name) == good), "{}", names.what);
         let ns = least(&names, &[&raw::utf8, &library]);
         println!("    {:<44} {:8.1} {:8.1}", names.what, ns[0], ns[1]);
     }

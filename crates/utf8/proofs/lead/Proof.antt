@@ -14,7 +14,7 @@ returns : tie.Need-returns
 unfolding classOf Rule
 returns c =
     let a = c .before .before in
-    let k : Rule (now (a .args .leads)) = a .pre in
+    let k : Rule (now (a .args .classes)) = a .pre in
     let e = k (a .args .b) (omega arith) in
     rw (eq-eqb _ _ (c .if1 .taken)) at e
 
@@ -37,7 +37,7 @@ returns-2 : tie.Need-returns-2
 unfolding classOf Rule
 returns-2 c =
     let a = c .before .before in
-    let k : Rule (now (a .args .leads)) = a .pre in
+    let k : Rule (now (a .args .classes)) = a .pre in
     let e = k (a .args .b) (omega arith) in
     rw (ne-eqb _ _ (c .if1 .left)) at e
 

@@ -16,10 +16,10 @@ use Rattle.utf8.proofs.sequences.Statement.{statement}
 use Rattle.utf8.proofs.sequences.Tie as tie
 
 abbrev Inv-loop : tie.InvT-loop
-Inv-loop s at leads i₀ i = utf8 (drop i s) ≡ utf8 (drop at s)
+Inv-loop s at classes i₀ i = utf8 (drop i s) ≡ utf8 (drop at s)
 
 abbrev μ-loop : tie.MeasureT-loop
-μ-loop s at leads i₀ i = length s - i
+μ-loop s at classes i₀ i = length s - i
 
 loop-holds : tie.Need-loop-holds Inv-loop μ-loop
 loop-holds c = refl
@@ -52,7 +52,7 @@ add-behind c = search needs
 behind-requires : tie.Need-behind-requires Inv-loop μ-loop
 behind-requires c κs =
     let r = c .before .before .before .lead in
-    (most-three _ (c .before .f .given .0 .0) (sym (r .ensures) ∙ c .before .f .given .1), omega arith)
+    (most-three _ (c .before .f .given .0 .0) (sym (r .ensures) ∙ c .before .f .given .1), omega arith, omega arith)
 
 returns-2 : tie.Need-returns-2 Inv-loop μ-loop
 returns-2 c =
