@@ -1,7 +1,7 @@
 -- Laws of UTF-8: what a class stands for, one sequence at a time, that an ASCII byte may be passed over, and that a text may be cut before any
 -- ASCII byte. Assumes nothing.
 use mathlib.Core.Path.{_≡_, refl, sym, ap, _∙_}
-use mathlib.Core.Bool.{Bool, true, false}
+use mathlib.Core.Bool.{Bool, true, false, false≢true}
 use mathlib.Core.Logic.{⊎-elim}
 use mathlib.Core.List.{List, [], _∷_, _++_}
 use Prim.Native.Nat.{ℕ, zero, suc, _+_, _-_, _<_, _≤_}
@@ -17,7 +17,7 @@ use Rattle.utf8.specs.Classes.{followOf, leadOf, pending, rangesOf, come
 use Rattle.utf8.specs.declared.Follow.{Follow}
 use Rattle.utf8.specs.declared.Class.{Class}
 use Rattle.utf8.specs.declared.Class.the-variants as C
-use Rattle.base.proofs.Ranges.{both-left, both-right, below-or-not, either, by-test, by-else, by-then, in-range}
+use Rattle.base.proofs.Ranges.{both-left, both-right, below-or-not, either, by-test, by-else, by-then, every, in-range}
 
 -- P holds of what each row has after its first byte
 abbrev Each : (List Range → Type 0) → List Row → Type 0
@@ -158,6 +158,17 @@ pub not-there : (k : ℕ) (f : Follow) (s : List ℕ) (i j : ℕ) → k < f .mor
     → within (rangeAt k (f .low) (f .high)) (getD s j 0) ≡ false → comes (rangesOf f) (drop i s) ≡ false
 not-there k f s i j l e w = missing k (f .more) (f .low) (f .high) s i j l e w
 
+-- one of each of n ranges to come is there, and of the next: one of each of n + 1
+pub there : (n low high : ℕ) (s : List ℕ) (i j : ℕ) → j < length s → j ≡ i + n → comes (pending n low high) (drop i s) ≡ true
+    → within (rangeAt n low high) (getD s j 0) ≡ true → comes (pending (n + 1) low high) (drop i s) ≡ true
+unfolding comes pending
+there zero low high s i j l e c w = let d : j ≡ i = omega arith in rw (drop-cons s i 0 (omega arith), rw d at w) refl
+there (suc n) low high s i j l e c w =
+    let t : (within (from low high) (getD s i 0) ≡ true) × (comes (pending n 0x80 0xBF) (drop (suc i) s) ≡ true) =
+    by-then (within (from low high) (getD s i 0)) (comes (pending n 0x80 0xBF) (drop (suc i) s)) false false≢true (rw (drop-cons s i 0 (omega arith)) at c) in
+    rw (add-one, drop-cons s i 0 (omega arith), t .0)
+    (rw add-one at (there n 0x80 0xBF s (suc i) j l (omega arith) (t .1) (rw (later n) w)))
+
 -- a byte of a range, and one below or above it
 pub in-it : (low high b : ℕ) → low ≤ b → b ≤ high → within (from low high) b ≡ true
 in-it low high b l h = rw (le-leb low b l, le-leb b high h) refl
@@ -211,6 +222,15 @@ not-followed (C.Is f) s i t w =
     (λ e. e) in
     rw (not-there 0 f s i i m (omega arith) out) refl
 
+-- a byte of the class leads nothing
+abbrev nothing : Class → Bool
+nothing C.Not = true
+nothing (C.Is f) = false
+
+led-nowhere : (x : Class) (bs : List ℕ) → T (nothing x) → goesBy x bs ≡ false
+led-nowhere C.Not bs t = refl
+led-nowhere (C.Is f) bs t = absurd t
+
 -- the same at a place of the text, whose bytes are below 256
 module _ (s : List ℕ) (i : ℕ) (l : i < length s) (a : 0x7F < getD s i 0) (h : getD s i 0 < 256) where
   turn : utf8 (drop i s) ≡ goesBy (leadOf (getD s i 0)) (drop (i + 1) s)
@@ -220,8 +240,20 @@ module _ (s : List ℕ) (i : ℕ) (l : i < length s) (a : 0x7F < getD s i 0) (h 
   unfollowed e = turn ∙ not-followed (leadOf (getD s i 0)) s (i + 1) (above-ascii (getD s i 0) a h) e
 
   -- none stands behind the end, where 0 is read
-  pub alone : length s - i < 2 → utf8 (drop i s) ≡ false
-  alone e = unfollowed (rw (List·getD-eq-default s 0 {n = i + 1} (omega arith)) refl)
+  pub alone : length s ≤ i + 1 → utf8 (drop i s) ≡ false
+  alone e = unfollowed (rw (List·getD-eq-default s 0 {n = i + 1} e) refl)
+
+  -- nor is there a sequence where the byte is one of n, from lo on, that lead nothing
+  unled : (lo n : ℕ) → T (every (λ (b : ℕ). nothing (leadOf b)) lo n) → lo ≤ getD s i 0 → getD s i 0 < lo + n → utf8 (drop i s) ≡ false
+  unled lo n t p q = turn ∙ led-nowhere (leadOf (getD s i 0)) (drop (i + 1) s) (in-range (λ (b : ℕ). nothing (leadOf b)) lo n (getD s i 0) t p q)
+
+  pub below-leads : getD s i 0 < 0xC2 → utf8 (drop i s) ≡ false
+  unfolding leadOf table leads afterFirst
+  below-leads e = unled 0x80 0x42 tt a e
+
+  pub above-leads : 0xF4 < getD s i 0 → utf8 (drop i s) ≡ false
+  unfolding leadOf table leads afterFirst
+  above-leads e = unled 0xF5 0x0B tt e h
 
 -- each range to come is above ASCII
 abbrev high : List Range → Bool

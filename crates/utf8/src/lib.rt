@@ -131,16 +131,22 @@ fn sequences(s: &[u8], at: usize) -> bool
     true
 }
 
-// Whether the bytes from `at` on are UTF-8, the first of them above ASCII: one of 0x80..=0xBF has to follow it. Many texts that are not UTF-8 end here,
-// before the array is needed, which is made anew for each text.
+// Whether the bytes from `at` on are UTF-8, the first of them above ASCII: one of 0x80..=0xBF has to follow it, and outside of 0xC2..=0xF4 it leads nothing.
+// Most texts of other encodings end here, before the array is needed, which is made anew for each text.
 fn above_ascii(s: &[u8], at: usize) -> bool
     requires { ⌜ (at < length (now s)) × (0x7F < getD (now s) at 0) ⌝ }
     ensures { λ r. ⌜ r ≡ utf8 (drop at (now (s .entry))) ⌝ }
 {
-    if s.len() - at < 2 {
+    if s.len() <= at + 1 {
         return false;
     }
     if !continues(s[at + 1]) {
+        return false;
+    }
+    if s[at] < 0xC2 {
+        return false;
+    }
+    if 0xF4 < s[at] {
         return false;
     }
     sequences(s, at)

@@ -1,6 +1,7 @@
 //! The cost of the UTF-8 test on names of 20 bytes, beside that of Rust's library.
 use device::Rng;
 use std::hint::black_box;
+use std::ops::RangeInclusive;
 use std::time::Instant;
 use worgesli::raw;
 
@@ -34,6 +35,23 @@ fn by_chance(spoiled: bool) -> Vec<[u8; 20]> {
     (0..1024).map(|_| name()).collect()
 }
 
+/// 1,024 names of an encoding that are not UTF-8, the same in each run: two to eight characters and ".bin". A character is of one of the kinds, and has a
+/// byte of each of its ranges.
+fn encoded(what: &'static str, kinds: &[&[RangeInclusive<u8>]]) -> Names {
+    let mut r = Rng::new(4);
+    let mut name = || {
+        let mut text = Vec::new();
+        for _ in 0..2 + r.below(7) {
+            let kind = kinds[r.below(kinds.len() as u64) as usize];
+            text.extend(kind.iter().map(|bytes| bytes.start() + r.below(bytes.len() as u64) as u8));
+        }
+        text.extend(b".bin");
+        twenty(&text)
+    };
+    let bytes = std::iter::from_fn(|| Some(name())).filter(|name| std::str::from_utf8(name).is_err()).take(1024).collect();
+    Names { what, bytes }
+}
+
 fn all() -> Vec<Names> {
     let one = |what, name: &[u8]| Names { what, bytes: vec![twenty(name)] };
     vec![
@@ -45,15 +63,29 @@ fn all() -> Vec<Names> {
         one("three bytes", "録音機の記.bin".as_bytes()),
         one("four bytes", "🎙🎧🎚🎛.bin".as_bytes()),
         one("each length", "aé日🎙bü本🎧".as_bytes()),
-        Names { what: "1,024 names of each length by turns", bytes: by_chance(false) },
-        one("not UTF-8: ISO 8859-1", b"Pr\xfcfstand_S\xfcd.bin"),
-        one("not UTF-8: Shift JIS", b"\x98\x5e\x89\xb9\x8b\x40.bin"),
-        one("not UTF-8: EUC-JP, CF BF first", b"\xcf\xbf\xb2\xbb\xb5\xa1.bin"),
-        one("not UTF-8: EUC-JP, A4 A2 first", b"\xa4\xa2\xa4\xab\xa4\xb5.bin"),
-        one("not UTF-8: C0 80 first", b"\xc0\x80take_0001.bin"),
-        one("not UTF-8: a surrogate at the end", &["éééééééé".as_bytes(), b"_\xed\xa0\x80"].concat()),
+        Names { what: "each length, 1,024 names", bytes: by_chance(false) },
+        encoded("not UTF-8: ISO 8859-1", &[&[0x61..=0x7a], &[0x61..=0x7a], &[0x61..=0x7a], &[0xe0..=0xff]]),
+        encoded("not UTF-8: Windows-1251", &[&[0xc0..=0xff], &[0xe0..=0xff]]),
+        encoded("not UTF-8: KOI8-R", &[&[0xc0..=0xdf], &[0xc0..=0xff]]),
+        encoded("not UTF-8: Shift JIS", &[&[0x82..=0x82, 0x9f..=0xf1], &[0x83..=0x83, 0x40..=0x7e], &[0x88..=0x97, 0x80..=0xfc]]),
+        encoded("not UTF-8: EUC-JP", &[&[0xa4..=0xa5, 0xa1..=0xf3], &[0xb0..=0xcf, 0xa1..=0xfe]]),
+        encoded("not UTF-8: GB 2312", &[&[0xb0..=0xd7, 0xa1..=0xfe]]),
+        encoded("not UTF-8: EUC-KR", &[&[0xb0..=0xc8, 0xa1..=0xfe]]),
+        encoded("not UTF-8: Big5", &[&[0xa4..=0xc6, 0x40..=0x7e], &[0xa4..=0xc6, 0xa1..=0xfe]]),
+        Names { what: "not UTF-8: one byte FF", bytes: by_chance(true) },
+        encoded(
+            "not UTF-8: CESU-8",
+            &[&[0xed..=0xed, 0xa0..=0xaf, 0x80..=0xbf, 0xed..=0xed, 0xb0..=0xbf, 0x80..=0xbf], &[0x61..=0x7a]],
+        ),
         one("not UTF-8: cut short", &"録音機の記録機".as_bytes()[..20]),
-        Names { what: "not UTF-8: 1,024 names, one byte FF", bytes: by_chance(true) },
+        one("not UTF-8: a surrogate at the end", &["éééééééé".as_bytes(), b"_\xed\xa0\x80"].concat()),
+        one("not UTF-8: A4 A2 (EUC-JP)", b"\xa4\xa2\xa4\xab\xa4\xb5.bin"),
+        one("not UTF-8: C0 80", b"\xc0\x80take_0001.bin"),
+        one("not UTF-8: CF BF B2 (EUC-JP)", b"\xcf\xbf\xb2\xbb\xb5\xa1.bin"),
+        one("not UTF-8: C2 BC D2 F4 (GB 2312)", b"\xc2\xbc\xd2\xf4\xbb\xfa.bin"),
+        one("not UTF-8: F5 80", b"\xf5\x80\x80\x80take_0001.bin"),
+        one("not UTF-8: E0 80 80", b"\xe0\x80\x80take_0001.bin"),
+        one("not UTF-8: ED A0 80", b"\xed\xa0\x80take_0001.bin"),
     ]
 }
 

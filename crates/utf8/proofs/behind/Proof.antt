@@ -1,48 +1,35 @@
 -- `utf8::behind` meets its contract: each return by the tests that led there. Assumes nothing.
-use mathlib.Core.Path.{_≡_, refl, sym, ap, _∙_}
+use mathlib.Core.Path.{_≡_, refl, sym, _∙_}
 use mathlib.Core.Bool.{true}
 use mathlib.Core.List.{List}
-use Prim.Native.Nat.{ℕ, suc, _+_, _-_, _<_, _≤_}
+use Prim.Native.Nat.{ℕ, _+_, _-_, _<_, _≤_}
 use native.Mathlib.Omega.{arith}
-use native.Mathlib.Numerals.{add-one}
 use denote.Ref.{now}
 use lib.ListN.{length, getD, drop}
-use lib.Seq.{drop-cons}
 use borrow.Author.Tests.{not-true, not-false}
 use Rattle.utf8.specs.Utf8.{from, within}
-use Rattle.utf8.specs.Classes.{rangesOf, pending, comes}
+use Rattle.utf8.specs.Classes.{pending, comes}
 use Rattle.utf8.specs.declared.Follow.{Follow}
-use Rattle.utf8.proofs.Laws.{too-few, not-there, in-it, below-it, above-it}
+use Rattle.utf8.proofs.Laws.{too-few, not-there, there, in-it, below-it, above-it}
 use borrow.Author.Needs.{needs}
 use Rattle.utf8.proofs.behind.Statement.{statement}
 use Rattle.utf8.proofs.behind.Tie as tie
 
--- one, two and three bytes to come, which are there
-module _ (f : Follow) (s : List ℕ) (i : ℕ) where
-  one : f .more ≡ 1 → i < length s → within (from (f .low) (f .high)) (getD s i 0) ≡ true → comes (rangesOf f) (drop i s) ≡ true
-  unfolding comes pending
-  one e l u = rw (e, drop-cons s i 0, u) refl
+-- the bytes to come are there, the first, the second and the third
+module _ (f : Follow) (s : List ℕ) (i : ℕ) (u : within (from (f .low) (f .high)) (getD s i 0) ≡ true) where
+  abbrev firsts : ℕ → Type 0
+  firsts n = comes (pending n (f .low) (f .high)) (drop i s) ≡ true
 
-  two : f .more ≡ 2 → i + 1 < length s → within (from (f .low) (f .high)) (getD s i 0) ≡ true
-      → within (from 0x80 0xBF) (getD s (i + 1) 0) ≡ true → comes (rangesOf f) (drop i s) ≡ true
+  one : i < length s → firsts 1
   unfolding comes pending
-  two e l u v = rw (e, drop-cons s i 0 (omega arith), u, drop-cons s (suc i) 0 (omega arith), rw add-one at v) refl
+  one l = there 0 (f .low) (f .high) s i i l (omega arith) refl u
 
-  three : f .more ≡ 3 → i + 2 < length s → within (from (f .low) (f .high)) (getD s i 0) ≡ true
-      → within (from 0x80 0xBF) (getD s (i + 1) 0) ≡ true → within (from 0x80 0xBF) (getD s (i + 2) 0) ≡ true
-      → comes (rangesOf f) (drop i s) ≡ true
-  unfolding comes pending
-  three e l u v w =
-      let d : i + 2 ≡ suc (suc i) = omega arith in
-      rw (
-        e,
-        drop-cons s i 0 (omega arith),
-        u,
-        drop-cons s (suc i) 0 (omega arith),
-        rw add-one at v,
-        drop-cons s (suc (suc i)) 0 (omega arith),
-        rw d at w,
-      ) refl
+  module _ (v : within (from 0x80 0xBF) (getD s (i + 1) 0) ≡ true) where
+    two : i + 1 < length s → firsts 2
+    two l = there 1 (f .low) (f .high) s i (i + 1) l refl (one (omega arith)) v
+
+    three : i + 2 < length s → within (from 0x80 0xBF) (getD s (i + 2) 0) ≡ true → firsts 3
+    three l w = there 2 (f .low) (f .high) s i (i + 2) l refl (two (omega arith)) w
 
 -- a number up to 3 that is none of 0, 1 and 2
 is-three : (n : ℕ) → (n ≡ 0 → ⊥) → (n ≡ 1 → ⊥) → (n ≡ 2 → ⊥) → n ≤ 3 → n ≡ 3
@@ -90,7 +77,7 @@ returns-5 c =
     let c3 = c4 .before .before .before in
     let a = c3 .before .before .before .before .before .before .before .before .args in
     let u = in-it (a .f .low) (a .f .high) (getD (now (a .s)) (a .i) 0) (c3 .if3 .left) (c4 .if4 .left) in
-    rw (one (a .f) (now (a .s)) (a .i) (c .if5 .taken) (omega arith) u) (omega arith)
+    rw (c .if5 .taken, one (a .f) (now (a .s)) (a .i) u (omega arith)) refl
 
 add-continues : tie.Need-add-continues
 add-continues c = search needs
@@ -118,7 +105,7 @@ returns-7 c =
     let a = c3 .before .before .before .before .before .before .before .before .args in
     let u = in-it (a .f .low) (a .f .high) (getD (now (a .s)) (a .i) 0) (c3 .if3 .left) (c4 .if4 .left) in
     let v = sym (c6 .before .continues .ensures) ∙ not-false _ (c6 .if6 .left) in
-    rw (two (a .f) (now (a .s)) (a .i) (c .if7 .taken) (omega arith) u v) (omega arith)
+    rw (c .if7 .taken, two (a .f) (now (a .s)) (a .i) u v (omega arith)) refl
 
 add-continues-2 : tie.Need-add-continues-2
 add-continues-2 c = search needs
@@ -153,7 +140,7 @@ returns-9 c =
     let v = sym (c6 .before .continues .ensures) ∙ not-false _ (c6 .if6 .left) in
     let w = sym (c .before .continues2 .ensures) ∙ not-false _ (c .if8 .left) in
     let e = is-three (a .f .more) (c1 .if1 .left) (c5 .if5 .left) (c7 .if7 .left) (omega arith) in
-    rw (three (a .f) (now (a .s)) (a .i) e (room _ _ _ e (c2 .if2 .left)) u v w) (ap (λ (n : ℕ). a .i + n) (sym e))
+    rw (e, three (a .f) (now (a .s)) (a .i) u v (room _ _ _ e (c2 .if2 .left)) w) refl
 
 pub behind-spec : {M : Type 1} → statement M
 behind-spec =

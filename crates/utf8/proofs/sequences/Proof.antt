@@ -2,7 +2,7 @@
 -- computed where it is lent. Assumes nothing.
 use mathlib.Core.Path.{_≡_, refl, sym, _∙_}
 use mathlib.Core.List.{[]}
-use Prim.Native.Nat.{_-_}
+use Prim.Native.Nat.{_-_, _<_}
 use native.Mathlib.Omega.{arith}
 use denote.Ref.{now}
 use lib.ListN.{length, drop, drop-of-length-le}
@@ -20,6 +20,19 @@ Inv-loop s at classes i₀ i = utf8 (drop i s) ≡ utf8 (drop at s)
 
 abbrev μ-loop : tie.MeasureT-loop
 μ-loop s at classes i₀ i = length s - i
+
+-- behind a sequence that is there: further on, and the bytes from there on say what those from `at` on say
+came : (c : tie.After-behind Inv-loop μ-loop) → (c .behind .result ≡ 0 → ⊥)
+    → (let a = c .before .before .before .before .before .before .before .before .before .before .args in
+    let l = c .before .before .before .before .before .before .before .before .loop in
+    (l .i < c .behind .result) × (utf8 (drop (c .behind .result) (now (a .s))) ≡ utf8 (drop (a .at) (now (a .s)))))
+came c z =
+    let s = now (c .before .before .before .before .before .before .before .before .before .before .args .s) in
+    let l = c .before .before .before .before .before .before .before .before .loop in
+    let n = c .before .before .f .given in
+    let e = sym (n .1) ∙ c .before .before .before .before .lead .ensures in
+    let w = whole s (l .i) (n .0 .0) _ (omega arith) e (c .behind .ensures) z in
+    (omega (arith, w .0), w .1 ∙ l .inv)
 
 loop-holds : tie.Need-loop-holds Inv-loop μ-loop
 loop-holds c = refl
@@ -63,22 +76,10 @@ returns-2 c =
     sym (not-whole s (l .i) (n .0 .0) _ (omega arith) e (c .before .behind .ensures) (c .if1 .taken)) ∙ l .inv
 
 loop-less : tie.Need-loop-less Inv-loop μ-loop
-loop-less c =
-    let s = now (c .before .before .before .before .before .before .before .before .before .before .before .args .s) in
-    let l = c .before .before .before .before .before .before .before .before .before .loop in
-    let n = c .before .before .before .f .given in
-    let e = sym (n .1) ∙ c .before .before .before .before .before .lead .ensures in
-    let w = whole s (l .i) (n .0 .0) _ (omega arith) e (c .before .behind .ensures) (c .if1 .left) in
-    omega (arith, w .0)
+loop-less c = let w = came (c .before) (c .if1 .left) in omega (arith, w .0)
 
 loop-again : tie.Need-loop-again Inv-loop μ-loop
-loop-again c =
-    let s = now (c .before .before .before .before .before .before .before .before .before .before .before .args .s) in
-    let l = c .before .before .before .before .before .before .before .before .before .loop in
-    let n = c .before .before .before .f .given in
-    let e = sym (n .1) ∙ c .before .before .before .before .before .lead .ensures in
-    let w = whole s (l .i) (n .0 .0) _ (omega arith) e (c .before .behind .ensures) (c .if1 .left) in
-    w .1 ∙ l .inv
+loop-again c = came (c .before) (c .if1 .left) .1
 
 returns-3 : tie.Need-returns-3 Inv-loop μ-loop
 unfolding goesOn
