@@ -17,6 +17,7 @@ use Rattle.utf8.specs.Classes.{followOf, leadOf, pending, rangesOf, come
 use Rattle.utf8.specs.declared.Follow.{Follow}
 use Rattle.utf8.specs.declared.Class.{Class}
 use Rattle.utf8.specs.declared.Class.the-variants as C
+use Rattle.utf8.proofs.Computed.{same, same-eq}
 use Rattle.base.proofs.Ranges.{both-left, both-right, below-or-not, either, by-test, by-else, by-then, every, in-range}
 
 -- P holds of what each row has after its first byte
@@ -222,15 +223,6 @@ not-followed (C.Is f) s i t w =
     (λ e. e) in
     rw (not-there 0 f s i i m (omega arith) out) refl
 
--- a byte of the class leads nothing
-abbrev nothing : Class → Bool
-nothing C.Not = true
-nothing (C.Is f) = false
-
-led-nowhere : (x : Class) (bs : List ℕ) → T (nothing x) → goesBy x bs ≡ false
-led-nowhere C.Not bs t = refl
-led-nowhere (C.Is f) bs t = absurd t
-
 -- the same at a place of the text, whose bytes are below 256
 module _ (s : List ℕ) (i : ℕ) (l : i < length s) (a : 0x7F < getD s i 0) (h : getD s i 0 < 256) where
   turn : utf8 (drop i s) ≡ goesBy (leadOf (getD s i 0)) (drop (i + 1) s)
@@ -244,8 +236,10 @@ module _ (s : List ℕ) (i : ℕ) (l : i < length s) (a : 0x7F < getD s i 0) (h 
   alone e = unfollowed (rw (List·getD-eq-default s 0 {n = i + 1} e) refl)
 
   -- nor is there a sequence where the byte is one of n, from lo on, that lead nothing
-  unled : (lo n : ℕ) → T (every (λ (b : ℕ). nothing (leadOf b)) lo n) → lo ≤ getD s i 0 → getD s i 0 < lo + n → utf8 (drop i s) ≡ false
-  unled lo n t p q = turn ∙ led-nowhere (leadOf (getD s i 0)) (drop (i + 1) s) (in-range (λ (b : ℕ). nothing (leadOf b)) lo n (getD s i 0) t p q)
+  unled : (lo n : ℕ) → T (every (λ (b : ℕ). same (leadOf b) C.Not) lo n) → lo ≤ getD s i 0 → getD s i 0 < lo + n → utf8 (drop i s) ≡ false
+  unled lo n t p q =
+      let e = same-eq (leadOf (getD s i 0)) C.Not (in-range (λ (b : ℕ). same (leadOf b) C.Not) lo n (getD s i 0) t p q) in
+      goes-turn s i C.Not l (sym e)
 
   pub below-leads : getD s i 0 < 0xC2 → utf8 (drop i s) ≡ false
   unfolding leadOf table leads afterFirst
