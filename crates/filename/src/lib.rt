@@ -10,7 +10,7 @@ pub enum NameCheck {
 }
 
 // How many bytes stand before the first b, all where there is none.
-fn find(name: &[u8], b: u8) -> usize
+pub fn find(name: &[u8], b: u8) -> usize
     ensures { λ r. ⌜ r ≡ length (before b (now (name .entry))) ⌝ }
 {
     let mut i: usize = 0;

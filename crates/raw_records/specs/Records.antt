@@ -1,5 +1,5 @@
--- A table entry, an image range, a check and a built packet as plain numbers, as they cross to C and Rust. Where something is refused, `refused` is its
--- number in document 01, "Refusals", and every other number is 0; no refusal has the number 0.
+-- A table entry, an image range, a check, a built packet and a region sheet's answer as plain numbers, as they cross to C and Rust. Where something is refused,
+-- `refused` is its number in document 01, "Refusals", of a sheet in document 02, request 4, and every other number is 0; no refusal has the number 0.
 use Prim.Native.Nat.{ℕ}
 use Rattle.base.specs.Choice.{pick}
 use Rattle.bundle.specs.declared.Checked.{Checked}
@@ -9,8 +9,11 @@ use Rattle.build.specs.declared.Built.the-variants as T
 use Rattle.entry.specs.declared.EntryAt.{EntryAt}
 use Rattle.image.specs.declared.ImageRange.{ImageRange}
 use Rattle.image.specs.declared.ImageRange.the-variants as R
+use Rattle.sheet.specs.declared.Sheet.{Sheet}
+use Rattle.sheet.specs.declared.Sheet.the-variants as S
 use Rattle.raw_records.specs.declared.RawEntry.{RawEntry}
 use Rattle.raw_records.specs.declared.RawRange.{RawRange}
+use Rattle.raw_records.specs.declared.RawSheet.{RawSheet}
 
 -- an entry; `there` is 0 beside an entry of zeros where the table has none
 abbrev pub rawEntry : EntryAt → RawEntry
@@ -27,6 +30,10 @@ rawEntry e =
 abbrev pub rawRange : ImageRange → RawRange
 rawRange (R.At start len) = record { start = start; len = len; refused = 0 }
 rawRange (R.Refused why) = record { start = 0; len = 0; refused = why }
+
+abbrev pub rawSheet : Sheet → RawSheet
+rawSheet (S.Written k) = record { written = k; refused = 0 }
+rawSheet (S.Refused why) = record { written = 0; refused = why }
 
 abbrev pub checkedNumber : Checked → ℕ
 checkedNumber C.Good = 0

@@ -1,11 +1,12 @@
-// A table entry, an image range, a check and a built packet as plain numbers: what crosses to C and Rust.
+// A table entry, an image range, a check, a built packet and a region sheet's answer as plain numbers: what crosses to C and Rust.
 use build::Built;
 use bundle::Checked;
 use entry::EntryAt;
 use image::ImageRange;
+use sheet::Sheet;
 ghost use mathlib.Core.Path.{_≡_};
 ghost use Rattle.base.specs.Choice.{pick};
-ghost use Rattle.raw_records.specs.Records.{rawEntry, rawRange, checkedNumber, builtNumber};
+ghost use Rattle.raw_records.specs.Records.{rawEntry, rawRange, rawSheet, checkedNumber, builtNumber};
 
 #[repr(C)]
 pub struct RawEntry {
@@ -21,6 +22,12 @@ pub struct RawEntry {
 pub struct RawRange {
     pub start: usize,
     pub len: usize,
+    pub refused: u32,
+}
+
+#[repr(C)]
+pub struct RawSheet {
+    pub written: usize,
     pub refused: u32,
 }
 
@@ -58,6 +65,21 @@ pub fn raw_range(x: ImageRange) -> RawRange
         ImageRange::Refused(why) => RawRange {
             start: 0,
             len: 0,
+            refused: why as u32,
+        },
+    }
+}
+
+pub fn raw_sheet(x: Sheet) -> RawSheet
+    ensures { λ r. ⌜ r ≡ rawSheet x ⌝ }
+{
+    match x {
+        Sheet::Written(k) => RawSheet {
+            written: k,
+            refused: 0,
+        },
+        Sheet::Refused(why) => RawSheet {
+            written: 0,
             refused: why as u32,
         },
     }

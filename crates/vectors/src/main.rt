@@ -28,6 +28,7 @@ fn region_case(letter: u8, line: &[u8]) {
         b'e' => regions::decode_entry(line),
         b'x' => regions::selected(line),
         b'y' => regions::next(line),
+        b'r' => regions::sheet(line),
         _ => show::nothing(),
     }
 }
@@ -49,7 +50,7 @@ fn cases(s: &[u8]) {
 }
 
 fn main() {
-    let mut input = [0u8; 262144];
+    let mut input = [0u8; 393216];
     let n = io::read_full(0, &mut input);
     cases(&input[..n]);
 }

@@ -1,4 +1,4 @@
-// Texts, table entries and their selection.
+// Texts, table entries, their selection and their sheet.
 use crate::show;
 use crate::text;
 use entry::RamdumpTable64;
@@ -10,6 +10,8 @@ use filename::check_open;
 use filename::stem_len;
 use selection::is_selected;
 use selection::next_selected;
+use sheet::Sheet;
+use sheet::region_sheet;
 
 // u BYTES
 pub(crate) fn utf8_valid(line: &[u8]) {
@@ -112,4 +114,26 @@ pub(crate) fn next(line: &[u8]) {
     let m = text::bytes(line, 4, &mut names);
     let from = text::index(line, 5);
     show::number(next_selected(&table[..n], width(line), entries, &names[..m], from));
+}
+
+fn sheet_into(table: &[u8], width: Width, page: &mut [u8]) {
+    match region_sheet(table, width, page) {
+        Sheet::Written(k) => show::number(k),
+        Sheet::Refused(why) => show::refused(why),
+    }
+    show::text(b" ");
+    show::bytes(page);
+}
+
+// r WIDTH TABLE SIZE: the region sheet on a page of SIZE bytes of 0xAA, and the whole page afterwards.
+pub(crate) fn sheet(line: &[u8]) {
+    let mut table = [0u8; 1024];
+    let n = text::bytes(line, 2, &mut table);
+    let mut page = [0xAAu8; 2048];
+    let size = text::index(line, 3);
+    if 2048 < size {
+        show::nothing();
+        return;
+    }
+    sheet_into(&table[..n], width(line), &mut page[..size]);
 }

@@ -1,5 +1,5 @@
--- What crosses to C and is told by no other crate: entries and the next selected one by a width that is a number (document 02, request 2), and the reset packet, built
--- alone (document 01, "Building").
+-- What crosses to C and is told by no other crate: entries, the next selected one and the region sheet by a width that is a number (document 02, requests 2 and 4), and the reset
+-- packet, built alone (document 01, "Building").
 use Prim.Native.Nat.{ℕ, _+_, _-_}
 use mathlib.Core.List.{List}
 use Rattle.base.specs.Choice.{pick}
@@ -10,7 +10,10 @@ use Rattle.selection.specs.Selection.{nextOf}
 use Rattle.raw.specs.Raw.{widthOf, isWidth}
 use Rattle.build.specs.declared.Request.the-variants as Q
 use Rattle.build.specs.Build as B
-use Rattle.raw_records.specs.Records.{builtNumber}
+use Rattle.raw_records.specs.Records.{builtNumber, rawSheet}
+use Rattle.raw_records.specs.declared.RawSheet.{RawSheet}
+use Rattle.sheet.specs.Sheet.{SheetOutcome, sheetOutcome, sheetOf}
+use Rattle.sheet.specs.declared.Sheet.the-variants as S
 
 -- entry i of a table; of a number that is no width there is none
 unfoldable pub entryRaw : List ℕ → ℕ → ℕ → EntryAt
@@ -20,6 +23,21 @@ entryRaw t n i = pick (isWidth n) (entryAt (fieldSize (widthOf n)) t i) missing
 unfoldable pub nextRaw : List ℕ → ℕ → ℕ → List ℕ → ℕ → ℕ
 nextRaw t n entries names from =
     pick (isWidth n) (nextOf (fieldSize (widthOf n)) names t (entries - from) from) (from + (entries - from))
+
+-- the region sheet; of a number that is no width there is no entry, and nothing is written
+unfoldable pub sheetIn : List ℕ → ℕ → List ℕ → SheetOutcome
+sheetIn t n p = pick (isWidth n) (sheetOf (fieldSize (widthOf n)) t p) (sheetOutcome (S.Written 0) p)
+
+-- its numbers, and the page afterwards
+pub record PageOutcome : Type 0 where
+  pub sheet : RawSheet
+  pub page : List ℕ
+
+abbrev pub pageOutcome : RawSheet → List ℕ → PageOutcome
+pageOutcome s p = record { sheet = s; page = p }
+
+unfoldable pub sheetRaw : List ℕ → ℕ → List ℕ → PageOutcome
+sheetRaw t n p = pageOutcome (rawSheet (sheetIn t n p .sheet)) (sheetIn t n p .page)
 
 -- Reset: its number, and the out buffer afterwards
 pub record ResetOutcome : Type 0 where

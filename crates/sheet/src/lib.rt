@@ -1,0 +1,163 @@
+// The region sheet: a line of text for each entry of a memory table, written to a lent page.
+use entry::RamdumpTable64;
+use entry::entries_in;
+use entry::entry_at;
+use field::Width;
+use filename::find;
+ghost use mathlib.Core.Path.{_≡_};
+ghost use mathlib.Core.List.{map};
+ghost use Prim.Native.Nat.{_+_, _*_, _<_, _≤_};
+ghost use lib.ListN.{length, take, replicate};
+ghost use lib.Seq.{sets};
+ghost use Rattle.base.specs.Told.{Tells};
+ghost use Rattle.field.specs.Field.{fieldSize};
+ghost use Rattle.entry.specs.Entry.{entriesIn};
+ghost use Rattle.sheet.specs.Sheet.{
+  blank,
+  printed,
+  columns,
+  digit,
+  hex,
+  mark,
+  lineOf,
+  linesOf,
+  sheetOutcome,
+  sheetOutcomeTold,
+  sheetOf,
+};
+
+// How many bytes of the page were written, or the refusal.
+pub enum Sheet {
+    Written(usize),
+    Refused(u8),
+}
+
+// The bytes of a line.
+const LINE: usize = 57;
+
+// The columns of a filename.
+const COLUMNS: usize = 20;
+
+// A byte of a filename as it is printed.
+fn printed_byte(b: u8) -> u8
+    ensures { λ r. ⌜ r ≡ printed b ⌝ }
+{
+    if b < 0x20 {
+        return b'?';
+    }
+    if 0x7e < b {
+        return b'?';
+    }
+    b
+}
+
+// Writes the first k bytes of a filename as they are printed.
+fn put_printed(page: &mut [u8], at: usize, name: &[u8], k: usize)
+    requires { ⌜ (at + k ≤ length (now page)) × (k ≤ length (now name)) ⌝ }
+    ensures { λ _. ⌜ now (page .exit) ≡ sets (now (page .entry)) at (map printed (take k (now (name .entry)))) ⌝ }
+{
+    let mut j: usize = 0;
+    while j < k {
+        page[at + j] = printed_byte(name[j]);
+        j += 1;
+    }
+}
+
+// Writes n blanks.
+fn put_blanks(page: &mut [u8], at: usize, n: usize)
+    requires { ⌜ at + n ≤ length (now page) ⌝ }
+    ensures { λ _. ⌜ now (page .exit) ≡ sets (now (page .entry)) at (replicate n blank) ⌝ }
+{
+    let mut j: usize = 0;
+    while j < n {
+        page[at + j] = b' ';
+        j += 1;
+    }
+}
+
+// Writes a filename in its 20 columns.
+fn put_name(page: &mut [u8], at: usize, name: &[u8])
+    requires { ⌜ (at + 20 ≤ length (now page)) × (length (now name) ≡ 20) ⌝ }
+    ensures { λ _. ⌜ now (page .exit) ≡ sets (now (page .entry)) at (columns (now (name .entry))) ⌝ }
+{
+    let k = find(name, 0);
+    put_printed(page, at, name, k);
+    put_blanks(page, at + k, COLUMNS - k);
+}
+
+// A capital hexadecimal digit.
+fn hex_digit(d: u8) -> u8
+    requires { ⌜ d < 16 ⌝ }
+    ensures { λ r. ⌜ r ≡ digit d ⌝ }
+{
+    if d < 10 {
+        return b'0' + d;
+    }
+    b'A' + (d - 10)
+}
+
+// Writes a number in 16 digits, the last one first.
+fn put_hex(page: &mut [u8], at: usize, v: u64)
+    requires { ⌜ at + 16 ≤ length (now page) ⌝ }
+    ensures { λ _. ⌜ now (page .exit) ≡ sets (now (page .entry)) at (hex 16 v) ⌝ }
+{
+    let mut rest = v;
+    let mut j: usize = 16;
+    while 0 < j {
+        j -= 1;
+        page[at + j] = hex_digit((rest % 16) as u8);
+        rest = rest / 16;
+    }
+}
+
+// The mark of a preference.
+fn mark_of(preference: u64) -> u8
+    ensures { λ r. ⌜ r ≡ mark preference ⌝ }
+{
+    if preference == 0 {
+        return b' ';
+    }
+    b'*'
+}
+
+// Writes an entry's line.
+fn put_line(page: &mut [u8], at: usize, e: RamdumpTable64)
+    requires { ⌜ at + 57 ≤ length (now page) ⌝ }
+    ensures { λ _. ⌜ now (page .exit) ≡ sets (now (page .entry)) at (lineOf e) ⌝ }
+{
+    let filename = e.filename;
+    put_name(page, at, &filename);
+    page[at + 20] = b' ';
+    put_hex(page, at + 21, e.base);
+    page[at + 37] = b' ';
+    put_hex(page, at + 38, e.len);
+    page[at + 54] = b' ';
+    page[at + 55] = mark_of(e.save_pref);
+    page[at + 56] = b'\n';
+}
+
+// Writes the lines of a table's first n entries.
+fn put_lines(page: &mut [u8], table: &[u8], width: Width, n: usize)
+    requires { ⌜ (n ≤ entriesIn (fieldSize width) (length (now table))) × (57 * n ≤ length (now page)) ⌝ }
+    ensures { λ _. ⌜ now (page .exit) ≡ sets (now (page .entry)) 0 (linesOf (fieldSize width) (now (table .entry)) n) ⌝ }
+{
+    let mut i: usize = 0;
+    while i < n {
+        let found = entry_at(table, width, i);
+        let e = found.entry;
+        put_line(page, LINE * i, e);
+        i += 1;
+    }
+}
+
+// The sheet of a table, a line an entry. Where the page is too short for all of them, none is written.
+pub fn region_sheet(table: &[u8], width: Width, page: &mut [u8]) -> Sheet
+    ensures { λ r. ⌜ Tells sheetOutcomeTold (sheetOutcome r (now (page .exit))) (sheetOf (fieldSize width) (now (table .entry)) (now (page .entry))) ⌝ }
+{
+    let n = entries_in(width, table.len());
+    if page.len() / LINE < n {
+        return Sheet::Refused(25);
+    }
+    put_lines(page, table, width, n);
+    Sheet::Written(LINE * n)
+}
