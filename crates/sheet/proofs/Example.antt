@@ -2,10 +2,10 @@
 -- description, in what stands behind the name's zero byte, and by a remainder, and have the same sheet. Assumes nothing.
 use mathlib.Core.Path.{_≡_, refl, sym, _∙_}
 use mathlib.Core.Bool.{Bool, true, false}
-use mathlib.Core.List.{List, [], _∷_, _++_, map}
-use Prim.Native.Nat.{ℕ, zero, suc, _<_}
+use mathlib.Core.List.{List, [], _∷_, _++_}
+use Prim.Native.Nat.{ℕ, zero, suc}
 use lib.Dec.{T, ltb, ltb→lt, lit<}
-use lib.ListN.{length, getD, replicate}
+use lib.ListN.{replicate}
 use Rattle.base.specs.Choice.{pick}
 use Rattle.base.proofs.Ranges.{both-left, both-right}
 use Rattle.field.specs.Field.{le, leBytes, fieldSize}

@@ -1,19 +1,19 @@
--- What may be read off a sheet: its length; line i is of entry i alone; each byte of a line but the last is printable, and the last is a line feed; two tables
+-- What may be read off a sheet: its length, and its page's; line i is of entry i alone; each byte of a line but the last is printable, and the last is a line feed; two tables
 -- with the same sheet have as many entries, with the same names as printed, bases, lengths and marks. Assumes nothing.
 use mathlib.Core.Path.{_≡_, refl, sym, ap, _∙_}
 use mathlib.Core.Bool.{Bool, true, false, _&&_}
 use mathlib.Core.Logic.{⊎-elim}
-use mathlib.Core.List.{List, [], _∷_, _++_, map, append-assoc}
+use mathlib.Core.List.{List, [], _∷_, _++_, map}
 use Prim.Native.Nat.{ℕ, zero, suc, _+_, _-_, _*_, _/_, _%_, _^_, _<_, _≤_}
 use native.Mathlib.Omega.{arith}
-use native.Mathlib.Nat.{pow-suc, pow-zero, div-lt-iff-lt-mul, le-antisymm}
+use native.Mathlib.Nat.{pow-suc, pow-zero, div-lt-iff-lt-mul}
 use borrow.Author.Tests.{lt-ltb, le-ltb, leb-true, ltb-true, ltb-false}
 use lib.Dec.{ltb, leb, eqb, lit<, lit≤}
 use lib.ListN.{length, getD, take, drop, replicate, length-append, length-drop, List·getD-append}
-use lib.Seq.{take-all, take-at, drop-at, take-append-le, drop-append-le, drop-append-add, getD-take, getD-drop, getD-append-add, getD-at}
+use lib.Seq.{take-all, take-at, drop-at, take-append-le, drop-append-le, drop-append-add, getD-take, getD-drop, getD-at}
 use Rattle.base.specs.Choice.{pick}
 use Rattle.base.proofs.Ranges.{below-or-not, by-test}
-use Rattle.base.proofs.Tests.{split, and-true, differ}
+use Rattle.base.proofs.Tests.{split, and-true}
 use Rattle.field.specs.Field.{le, fieldSize}
 use Rattle.field.specs.declared.Width.{Width}
 use Rattle.field.proofs.Laws.{le-step, memory-most}
@@ -36,6 +36,7 @@ use Rattle.sheet.specs.Sheet.{
   linesOf,
   sheetBytes,
   sheetSize,
+  sheetOf,
 }
 use Rattle.sheet.specs.Reading.{Bytes, Printable, valueOf, numberOf, Alike}
 use Rattle.sheet.proofs.Laws.{length-hex, length-columns, length-text, length-line, name-20, length-lines, length-sheet}
@@ -105,6 +106,14 @@ all-text e =
 -- ---- lines
 
 module _ (f : ℕ) (t : List ℕ) where
+  -- a page stays as long as it was
+  pub length-page : (p : List ℕ) → length (sheetOf f t p .page) ≡ length p
+  unfolding sheetOf
+  length-page p =
+      by-test (ltb (length p) (sheetSize f t))
+      (λ h. rw h refl)
+      (λ h. let k : sheetSize f t ≤ length p = ltb-false (length p) (sheetSize f t) h in rw h (simp (length-append, length-drop, length-sheet f t) (omega arith)))
+
   -- line i is of entry i alone
   lines-at : (n i : ℕ) → i < n → n ≤ entriesIn f (length t) → take 57 (drop (57 * i) (linesOf f t n)) ≡ lineOf (entryIn f t i)
   unfolding linesOf

@@ -1,12 +1,11 @@
 -- `sheet::put_hex` meets its contract. The loop's invariant: with the j digits of what is left stored too, the page is what it is to be. Assumes nothing.
-use mathlib.Core.Path.{_≡_, refl, sym, ap, _∙_}
-use mathlib.Core.List.{List, []}
-use Prim.Native.Nat.{ℕ, zero, suc, _+_, _-_, _/_, _%_, _≤_}
+use mathlib.Core.Path.{_≡_, refl, sym, _∙_}
+use Prim.Native.Nat.{ℕ, suc, _-_, _≤_}
 use native.Mathlib.Omega.{arith}
 use denote.Ref.{now}
-use lib.ListN.{length, set, length-set}
+use lib.ListN.{length, length-set}
 use lib.Seq.{sets}
-use Rattle.sheet.specs.Sheet.{digit, hex}
+use Rattle.sheet.specs.Sheet.{hex}
 use Rattle.sheet.proofs.Laws.{hex-stored}
 use borrow.Author.Needs.{needs}
 use Rattle.sheet.proofs.put_hex.Statement.{statement}

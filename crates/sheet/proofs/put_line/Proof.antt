@@ -1,10 +1,8 @@
 -- `sheet::put_line` meets its contract: its stores, one behind the other, are the line (`line-stored`), and none changes the page's length. Assumes nothing.
-use mathlib.Core.Path.{_≡_, refl, sym, ap, _∙_}
-use mathlib.Core.List.{List}
-use Prim.Native.Nat.{ℕ, _+_}
+use mathlib.Core.Path.{_≡_, ap, _∙_}
 use native.Mathlib.Omega.{arith}
 use denote.Ref.{now}
-use lib.ListN.{length, set, length-set}
+use lib.ListN.{length, length-set}
 use lib.Seq.{length-sets}
 use Rattle.sheet.proofs.Laws.{line-stored}
 use borrow.Author.Needs.{needs}

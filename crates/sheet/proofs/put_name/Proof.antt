@@ -1,5 +1,5 @@
 -- `sheet::put_name` meets its contract: the bytes before the first zero, then blanks, are the columns (`columns-stored`). Assumes nothing.
-use mathlib.Core.Path.{sym, ap, _∙_}
+use mathlib.Core.Path.{ap, _∙_}
 use mathlib.Core.List.{List}
 use Prim.Native.Nat.{ℕ, _+_, _-_}
 use native.Mathlib.Omega.{arith}
