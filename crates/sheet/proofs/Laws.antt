@@ -1,14 +1,13 @@
 -- Laws of the sheet: the lengths of its parts, and what is stored where: digits from the last one on, the columns of a name, a line piece by piece, the
 -- two outcomes. Assumes nothing.
 use mathlib.Core.Path.{_≡_, refl, sym, ap, _∙_}
-use mathlib.Core.List.{List, [], _∷_, _++_, map, map-append}
+use mathlib.Core.List.{List, [], _∷_, _++_, map}
 use Prim.Native.Nat.{ℕ, zero, suc, _+_, _-_, _*_, _/_, _%_, _<_, _≤_}
 use native.Mathlib.Nat.{zero-add}
-use native.Mathlib.Numerals.{add-one}
 use native.Mathlib.Omega.{arith}
 use borrow.Author.Tests.{lt-ltb, le-ltb}
-use lib.ListN.{length, getD, take, drop, set, replicate, length-append, length-map, length-take, length-replicate, replicate-append-replicate}
-use lib.Seq.{sets, set-comm, take-suc}
+use lib.ListN.{length, getD, take, drop, set, replicate, length-append, length-map, length-replicate, getD-replicate, List·getD-append}
+use lib.Seq.{sets, set-comm, take-suc, length-take-le, getD-take, getD-append-add}
 use Rattle.base.specs.Told.{Tells}
 use Rattle.base.proofs.Lists.{sets-append, sets-front}
 use Rattle.base.proofs.Telling.{tells}
@@ -57,6 +56,31 @@ pub length-line : (e : RamdumpTable64) → length (e .filename) ≡ 20 → lengt
 unfolding lineOf
 length-line e h = simp (length-append, length-text e h) (omega arith)
 
+-- ---- columns
+
+-- an element of the bytes as they are printed
+printed-at : (s : List ℕ) (j : ℕ) → j < length s → getD (map printed s) j 0 ≡ printed (getD s j 0)
+printed-at [] j h = absurd (omega arith)
+printed-at (b ∷ s) zero h = refl
+printed-at (b ∷ s) (suc j) h = printed-at s j (omega arith)
+
+-- the columns of a name of which k bytes stand before its first zero: these as they are printed, then blanks
+module _ (name : List ℕ) (k : ℕ) (e : k ≡ length (before 0 name)) (j : ℕ) where
+  pub column-printed : j < k → getD (columns name) j 0 ≡ printed (getD name j 0)
+  unfolding columns
+  column-printed h =
+      List·getD-append (map printed (before 0 name)) (replicate (20 - length (before 0 name)) blank) 0 j (simp length-map (omega arith))
+      ∙ printed-at (before 0 name) j (omega arith)
+      ∙ ap printed (ap (λ (s : List ℕ). getD s j 0) (sym (take-before 0 name k e)) ∙ getD-take k name j 0 h)
+
+  pub column-blank : k ≤ j → j < 20 → getD (columns name) j 0 ≡ blank
+  unfolding columns
+  column-blank h l =
+      let n : length (map printed (before 0 name)) + (j - k) ≡ j = simp length-map (omega arith) in
+      ap (λ (i : ℕ). getD (columns name) i 0) (sym n)
+      ∙ getD-append-add (map printed (before 0 name)) (replicate (20 - length (before 0 name)) blank) (j - k) 0
+      ∙ getD-replicate (20 - length (before 0 name)) (j - k) blank 0 (omega arith)
+
 -- ---- stores
 
 -- a store behind a run of stores may be made before it
@@ -77,32 +101,9 @@ hex-stored d at k v =
 pub sets-more : (xs : List ℕ) (y : ℕ) (d : List ℕ) (at n : ℕ) → length xs ≡ n → sets d at (xs ++ y ∷ []) ≡ set (sets d at xs) (at + n) y
 sets-more xs y d at n e = sets-append xs (y ∷ []) d at ∙ rw e refl
 
--- the first j bytes as they are printed, and one more
-pub printed-more : (s d : List ℕ) (at j : ℕ) → j < length s
-    → sets d at (map printed (take (suc j) s)) ≡ set (sets d at (map printed (take j s))) (at + j) (printed (getD s j 0))
-printed-more s d at j h =
-    let n : length (map printed (take j s)) ≡ j = simp (length-map, length-take) (omega arith) in
-    rw (take-suc s j 0 h, map-append) (sets-more (map printed (take j s)) (printed (getD s j 0)) d at j n)
-
--- n blanks, and one more
-pub blanks-more : (n : ℕ) (d : List ℕ) (at : ℕ) → sets d at (replicate (suc n) blank) ≡ set (sets d at (replicate n blank)) (at + n) blank
-blanks-more n d at =
-    let e : replicate n blank ++ blank ∷ [] ≡ replicate (suc n) blank = replicate-append-replicate n 1 blank ∙ ap (λ (k : ℕ). replicate k blank) (add-one n) in
-    ap (sets d at) (sym e) ∙ sets-more (replicate n blank) blank d at n (length-replicate n blank)
-
--- the two make the columns
-pub columns-stored : (name d : List ℕ) (at k : ℕ) → k ≡ length (before 0 name)
-    → sets (sets d at (map printed (take k name))) (at + k) (replicate (20 - k) blank) ≡ sets d at (columns name)
-unfolding columns
-columns-stored name d at k e =
-    let n : length (map printed (before 0 name)) ≡ k = simp length-map (sym e) in
-    rw (
-      take-before 0 name k e,
-      ← e,
-      sets-append (map printed (before 0 name)) (replicate (20 - k) blank) d at,
-      n,
-    )
-    refl
+-- the first j of a run, and one more
+pub take-more : (xs d : List ℕ) (at j : ℕ) → j < length xs → sets d at (take (suc j) xs) ≡ set (sets d at (take j xs)) (at + j) (getD xs j 0)
+take-more xs d at j h = rw (take-suc xs j 0 h) (sets-more (take j xs) (getD xs j 0) d at j (length-take-le j xs (omega arith)))
 
 -- a run, then a store behind it
 behind : (xs : List ℕ) (y : ℕ) (ys d : List ℕ) (at b c : ℕ) → at + length xs ≡ b → suc b ≡ c

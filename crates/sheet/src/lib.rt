@@ -5,13 +5,13 @@ use entry::entry_at;
 use field::Width;
 use filename::find;
 ghost use mathlib.Core.Path.{_≡_};
-ghost use mathlib.Core.List.{map};
 ghost use Prim.Native.Nat.{_+_, _*_, _<_, _≤_};
-ghost use lib.ListN.{length, take, replicate};
+ghost use lib.ListN.{length, getD};
 ghost use lib.Seq.{sets};
 ghost use Rattle.base.specs.Told.{Tells};
 ghost use Rattle.field.specs.Field.{fieldSize};
 ghost use Rattle.entry.specs.Entry.{entriesIn};
+ghost use Rattle.filename.specs.Filename.{before};
 ghost use Rattle.sheet.specs.Sheet.{
   blank,
   printed,
@@ -51,28 +51,15 @@ fn printed_byte(b: u8) -> u8
     b
 }
 
-// Writes the first k bytes of a filename as they are printed.
-fn put_printed(page: &mut [u8], at: usize, name: &[u8], k: usize)
-    requires { ⌜ (at + k ≤ length (now page)) × (k ≤ length (now name)) ⌝ }
-    ensures { λ _. ⌜ now (page .exit) ≡ sets (now (page .entry)) at (map printed (take k (now (name .entry)))) ⌝ }
+// Column j of a filename of which k bytes stand before its first zero.
+fn column(name: &[u8], k: usize, j: usize) -> u8
+    requires { ⌜ (k ≡ length (before 0 (now name))) × (j < 20) ⌝ }
+    ensures { λ r. ⌜ r ≡ getD (columns (now (name .entry))) j 0 ⌝ }
 {
-    let mut j: usize = 0;
-    while j < k {
-        page[at + j] = printed_byte(name[j]);
-        j += 1;
+    if j < k {
+        return printed_byte(name[j]);
     }
-}
-
-// Writes n blanks.
-fn put_blanks(page: &mut [u8], at: usize, n: usize)
-    requires { ⌜ at + n ≤ length (now page) ⌝ }
-    ensures { λ _. ⌜ now (page .exit) ≡ sets (now (page .entry)) at (replicate n blank) ⌝ }
-{
-    let mut j: usize = 0;
-    while j < n {
-        page[at + j] = b' ';
-        j += 1;
-    }
+    b' '
 }
 
 // Writes a filename in its 20 columns.
@@ -81,8 +68,11 @@ fn put_name(page: &mut [u8], at: usize, name: &[u8])
     ensures { λ _. ⌜ now (page .exit) ≡ sets (now (page .entry)) at (columns (now (name .entry))) ⌝ }
 {
     let k = find(name, 0);
-    put_printed(page, at, name, k);
-    put_blanks(page, at + k, COLUMNS - k);
+    let mut j: usize = 0;
+    while j < COLUMNS {
+        page[at + j] = column(name, k, j);
+        j += 1;
+    }
 }
 
 // A capital hexadecimal digit.

@@ -1,57 +1,80 @@
--- `sheet::put_name` meets its contract: the bytes before the first zero, then blanks, are the columns (`columns-stored`). Assumes nothing.
-use mathlib.Core.Path.{ap, _∙_}
+-- `sheet::put_name` meets its contract. The loop's invariant: the first j columns are stored, and the length is kept. Assumes nothing.
+use mathlib.Core.Path.{_≡_, refl, sym, ap, _∙_}
 use mathlib.Core.List.{List}
-use Prim.Native.Nat.{ℕ, _+_, _-_}
+use Prim.Native.Nat.{ℕ, suc, _+_, _-_, _≤_}
+use native.Mathlib.Numerals.{add-one}
 use native.Mathlib.Omega.{arith}
 use denote.Ref.{now}
-use lib.ListN.{replicate}
-use lib.Seq.{sets}
-use Rattle.filename.proofs.Laws.{length-before}
-use Rattle.sheet.specs.Sheet.{blank}
-use Rattle.sheet.proofs.Laws.{columns-stored}
+use lib.ListN.{length, getD, take, set, length-set}
+use lib.Seq.{sets, take-all}
+use Rattle.sheet.specs.Sheet.{columns}
+use Rattle.sheet.proofs.Laws.{length-columns, take-more}
 use borrow.Author.Needs.{needs}
 use Rattle.sheet.proofs.put_name.Statement.{statement}
 use Rattle.sheet.proofs.put_name.Tie as tie
 
-find-requires : tie.Need-find-requires
+abbrev Inv-loop : tie.InvT-loop
+Inv-loop page₀ at name k j₀ page j = (j ≤ 20) × (length page ≡ length page₀) × (page ≡ sets page₀ at (take j (columns name)))
+
+abbrev μ-loop : tie.MeasureT-loop
+μ-loop page₀ at name k j₀ page j = 20 - j
+
+find-requires : tie.Need-find-requires Inv-loop μ-loop
 find-requires c κs = search needs
 
-put-printed-requires : tie.Need-put-printed-requires
-put-printed-requires c κs =
-    let n = length-before 0 (now (c .before .before .before .before .args .name)) in
-    (omega arith, omega arith)
+loop-holds : tie.Need-loop-holds Inv-loop μ-loop
+loop-holds c = (omega arith, refl, refl)
 
-add-put-blanks : tie.Need-add-put-blanks
-add-put-blanks c = let n = length-before 0 (now (c .before .before .before .before .before .before .before .before .args .name)) in omega arith
+column-requires : tie.Need-column-requires Inv-loop μ-loop
+column-requires c κs = (c .before .before .find .ensures, omega arith)
 
-sub-put-blanks : tie.Need-sub-put-blanks
-sub-put-blanks c = let n = length-before 0 (now (c .before .before .before .before .before .before .before .before .args .name)) in omega arith
+add-page : tie.Need-add-page Inv-loop μ-loop
+add-page c = search needs
 
-put-blanks-requires : tie.Need-put-blanks-requires
-put-blanks-requires c κs = let n = length-before 0 (now (c .before .before .before .before .before .before .before .before .args .name)) in omega arith
+slice-write-page : tie.Need-slice-write-page Inv-loop μ-loop
+slice-write-page c = search needs
 
-same-length : tie.Need-same-length
+add-j : tie.Need-add-j Inv-loop μ-loop
+add-j c = search needs
+
+loop-less : tie.Need-loop-less Inv-loop μ-loop
+loop-less c = search needs
+
+loop-again : tie.Need-loop-again Inv-loop μ-loop
+loop-again c =
+    let a = c .before .before .before .before .before .before .args in
+    let l = c .before .before .loop in
+    let s : List ℕ = columns (now (a .name)) in
+    let n : length s ≡ 20 = length-columns (now (a .name)) (omega arith) in
+    let e : set (l .page) (a .at + l .j) (getD s (l .j) 0) ≡ sets (now (a .page)) (a .at) (take (suc (l .j)) s) =
+    ap (λ (p : List ℕ). set p (a .at + l .j) (getD s (l .j) 0)) (l .inv .2) ∙ sym (take-more s (now (a .page)) (a .at) (l .j) (omega arith)) in
+    (omega arith, simp length-set (omega arith), rw (add-one, c .column .ensures) e)
+
+same-length : tie.Need-same-length Inv-loop μ-loop
 same-length c = search needs
 
-returns : tie.Need-returns
+returns : tie.Need-returns Inv-loop μ-loop
 returns c =
-    let b = c .before .before in
-    let p = b .before .before .before .before in
-    let f = p .before .before in
-    let a = f .before .before .before .args in
-    let k : ℕ = f .find .result in
-    b .put-blanks .ensures
-    ∙ ap (λ (d : List ℕ). sets d (a .at + k) (replicate (20 - k) blank)) (p .put-printed .ensures)
-    ∙ columns-stored (now (a .name)) (now (a .page)) (a .at) k (f .find .ensures)
+    let a = c .before .before .before .before .before .args in
+    let l = c .before .loop in
+    let s : List ℕ = columns (now (a .name)) in
+    let e : l .j ≡ 20 = omega arith in
+    let n : length s ≡ 20 = length-columns (now (a .name)) (omega arith) in
+    l .inv .2 ∙ ap (sets (now (a .page)) (a .at)) (ap (λ (k : ℕ). take k s) e ∙ take-all 20 s (omega arith))
 
 pub put-name-spec : {M : Type 1} → statement M
 put-name-spec =
     tie.close
     (tie.spec
+    Inv-loop
+    μ-loop
     find-requires
-    put-printed-requires
-    add-put-blanks
-    sub-put-blanks
-    put-blanks-requires
+    loop-holds
+    column-requires
+    add-page
+    slice-write-page
+    add-j
+    loop-less
+    loop-again
     same-length
     returns)
