@@ -1,16 +1,30 @@
 -- Laws of lists that the kit does not have: stores, a part of a part, and beginnings. Assumes nothing.
-use mathlib.Core.Path.{_≡_, refl, sym, ap}
+use mathlib.Core.Path.{_≡_, refl, sym, ap, _∙_}
 use mathlib.Core.List.{List, [], _∷_, _++_}
-use Prim.Native.Nat.{ℕ, zero, suc, _+_, _≤_}
+use Prim.Native.Nat.{ℕ, zero, suc, _+_, _<_, _≤_}
 use native.Mathlib.Nat.{add-zero, add-suc, suc-add, zero-add}
 use native.Mathlib.Omega.{arith}
-use lib.ListN.{length, take, drop, set}
-use lib.Seq.{sets, sets-eq, take-take, take-nil, drop-drop}
+use lib.ListN.{length, getD, take, drop, set}
+use lib.Seq.{sets, sets-eq, set-comm, take-suc, length-take-le, take-take, take-nil, drop-drop}
 
 -- a store of two runs is two stores
 pub sets-append : (xs ys d : List ℕ) (at : ℕ) → sets d at (xs ++ ys) ≡ sets (sets d at xs) (at + length xs) ys
 sets-append [] ys d at = rw add-zero refl
 sets-append (x ∷ xs) ys d at = rw (add-suc, ← suc-add) (sets-append xs ys (set d at x) (suc at))
+
+-- a store of a run of n, and one more
+pub sets-more : (xs : List ℕ) (y : ℕ) (d : List ℕ) (at n : ℕ) → length xs ≡ n → sets d at (xs ++ y ∷ []) ≡ set (sets d at xs) (at + n) y
+sets-more xs y d at n e = sets-append xs (y ∷ []) d at ∙ rw e refl
+
+-- of the first j of a run, and one more
+pub sets-take-more : (xs d : List ℕ) (at j : ℕ) → j < length xs → sets d at (take (suc j) xs) ≡ set (sets d at (take j xs)) (at + j) (getD xs j 0)
+sets-take-more xs d at j h = rw (take-suc xs j 0 h) (sets-more (take j xs) (getD xs j 0) d at j (length-take-le j xs (omega arith)))
+
+-- a store behind a run of stores may be made before it
+pub set-sets : (xs d : List ℕ) (at i v : ℕ) → at + length xs ≤ i → set (sets d at xs) i v ≡ sets (set d i v) at xs
+set-sets [] d at i v h = refl
+set-sets (x ∷ xs) d at i v h =
+    set-sets xs (set d at x) (suc at) i v (omega arith) ∙ ap (λ (l : List ℕ). sets l (suc at) xs) (set-comm d at i x v (λ e. omega arith))
 
 -- a store at the front is the run, then what stood behind it
 pub sets-front : (xs d : List ℕ) → length xs ≤ length d → sets d 0 xs ≡ xs ++ drop (length xs) d

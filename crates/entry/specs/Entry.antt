@@ -52,6 +52,10 @@ decoded f e =
       filename = filenameOf f e;
     }
 
+-- entry i of a table, decoded, where it is there
+abbrev pub entryIn : ℕ → List ℕ → ℕ → RamdumpTable64
+entryIn f t i = decoded f (entryOf f t i)
+
 -- an entry of zeros stands for one that is not there
 abbrev pub nothing : RamdumpTable64
 nothing = record { «save_pref» = 0; base = 0; len = 0; description = replicate 20 0; filename = replicate 20 0 }
@@ -60,6 +64,6 @@ nothing = record { «save_pref» = 0; base = 0; len = 0; description = replicate
 abbrev pub missing : EntryAt
 missing = record { there = false; entry = nothing }
 
--- entry i of a table, decoded
+-- entry i of a table, or that it is not there
 unfoldable pub entryAt : ℕ → List ℕ → ℕ → EntryAt
-entryAt f t i = pick (there f t i) (record { there = true; entry = decoded f (entryOf f t i) }) missing
+entryAt f t i = pick (there f t i) (record { there = true; entry = entryIn f t i }) missing

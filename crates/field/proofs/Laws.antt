@@ -118,6 +118,11 @@ pub memory-least : (v : Width) → 65536 < 256 ^ fieldSize v
 memory-least WI.Bits32 = omega arith
 memory-least WI.Bits64 = omega arith
 
+-- w bytes write a number below 256 ^ w
+pub le-below : (w at : ℕ) (s : List ℕ) → ((i : ℕ) → getD s i 0 < 256) → le w (drop at s) < 256 ^ w
+le-below zero at s h = rw le-zero (pow-pos256 zero)
+le-below (suc w) at s h = rw (le-step w at s, pow-suc 256 w) (omega (arith, le-below w (suc at) s h, h at))
+
 -- a field reads no byte behind it
 pub le-take : (w n : ℕ) (s : List ℕ) → w ≤ n → le w (take n s) ≡ le w s
 unfolding le

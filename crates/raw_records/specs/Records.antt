@@ -32,7 +32,7 @@ rawRange (R.At start len) = record { start = start; len = len; refused = 0 }
 rawRange (R.Refused why) = record { start = 0; len = 0; refused = why }
 
 abbrev pub rawSheet : Sheet → RawSheet
-rawSheet (S.Written k) = record { written = k; refused = 0 }
+rawSheet (S.Made k) = record { written = k; refused = 0 }
 rawSheet (S.Refused why) = record { written = 0; refused = why }
 
 abbrev pub checkedNumber : Checked → ℕ

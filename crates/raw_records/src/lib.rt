@@ -74,7 +74,7 @@ pub fn raw_sheet(x: Sheet) -> RawSheet
     ensures { λ r. ⌜ r ≡ rawSheet x ⌝ }
 {
     match x {
-        Sheet::Written(k) => RawSheet {
+        Sheet::Made(k) => RawSheet {
             written: k,
             refused: 0,
         },

@@ -6,12 +6,12 @@ use Prim.Native.Nat.{ℕ, zero, suc, _+_, _-_, _*_, _/_, _%_, _<_, _≤_}
 use native.Mathlib.Nat.{zero-add}
 use native.Mathlib.Omega.{arith}
 use borrow.Author.Tests.{lt-ltb, le-ltb}
-use lib.ListN.{length, getD, take, drop, set, replicate, length-append, length-map, length-replicate, getD-replicate, List·getD-append}
-use lib.Seq.{sets, set-comm, take-suc, length-take-le, getD-take, getD-append-add}
+use lib.ListN.{length, getD, drop, set, replicate, length-append, length-map, length-replicate, getD-replicate, List·getD-append}
+use lib.Seq.{sets, getD-take, getD-append-add}
 use Rattle.base.specs.Told.{Tells}
-use Rattle.base.proofs.Lists.{sets-append, sets-front}
+use Rattle.base.proofs.Lists.{sets-append, sets-more, set-sets, sets-front}
 use Rattle.base.proofs.Telling.{tells}
-use Rattle.entry.specs.Entry.{entrySize, entriesIn, entryAt}
+use Rattle.entry.specs.Entry.{entrySize, entriesIn, entryAt, entryIn}
 use Rattle.entry.specs.declared.RamdumpTable64.{RamdumpTable64}
 use Rattle.entry.proofs.Laws.{entry-flag, entry-told, there-below, length-filename}
 use Rattle.filename.specs.Filename.{before}
@@ -26,7 +26,6 @@ use Rattle.sheet.specs.Sheet.{
   mark,
   textOf,
   lineOf,
-  entryIn,
   linesOf,
   sheetBytes,
   sheetSize,
@@ -83,12 +82,6 @@ module _ (name : List ℕ) (k : ℕ) (e : k ≡ length (before 0 name)) (j : ℕ
 
 -- ---- stores
 
--- a store behind a run of stores may be made before it
-pub set-sets : (xs d : List ℕ) (at i v : ℕ) → at + length xs ≤ i → set (sets d at xs) i v ≡ sets (set d i v) at xs
-set-sets [] d at i v h = refl
-set-sets (x ∷ xs) d at i v h =
-    set-sets xs (set d at x) (suc at) i v (omega arith) ∙ ap (λ (l : List ℕ). sets l (suc at) xs) (set-comm d at i x v (λ e. omega arith))
-
 -- the last digit first, then those before it
 pub hex-stored : (d : List ℕ) (at k v : ℕ) → sets d at (hex (suc k) v) ≡ sets (set d (at + k) (digit (v % 16))) at (hex k (v / 16))
 unfolding hex
@@ -96,14 +89,6 @@ hex-stored d at k v =
     let e : length (hex k (v / 16)) ≡ k = length-hex k (v / 16) in
     sets-append (hex k (v / 16)) (digit (v % 16) ∷ []) d at
     ∙ rw e (set-sets (hex k (v / 16)) d at (at + k) (digit (v % 16)) (omega arith))
-
--- a run of n, and one store more
-pub sets-more : (xs : List ℕ) (y : ℕ) (d : List ℕ) (at n : ℕ) → length xs ≡ n → sets d at (xs ++ y ∷ []) ≡ set (sets d at xs) (at + n) y
-sets-more xs y d at n e = sets-append xs (y ∷ []) d at ∙ rw e refl
-
--- the first j of a run, and one more
-pub take-more : (xs d : List ℕ) (at j : ℕ) → j < length xs → sets d at (take (suc j) xs) ≡ set (sets d at (take j xs)) (at + j) (getD xs j 0)
-take-more xs d at j h = rw (take-suc xs j 0 h) (sets-more (take j xs) (getD xs j 0) d at j (length-take-le j xs (omega arith)))
 
 -- a run, then a store behind it
 behind : (xs : List ℕ) (y : ℕ) (ys d : List ℕ) (at b c : ℕ) → at + length xs ≡ b → suc b ≡ c
@@ -176,10 +161,10 @@ module _ (f : ℕ) (t : List ℕ) where
 
   -- and one on which the lines are stored from its beginning on
   pub writes : (p q : List ℕ) → sheetSize f t ≤ length p → q ≡ sets p 0 (sheetBytes f t)
-      → Tells sheetOutcomeTold (sheetOutcome (S.Written (sheetSize f t)) q) (sheetOf f t p)
+      → Tells sheetOutcomeTold (sheetOutcome (S.Made (sheetSize f t)) q) (sheetOf f t p)
   unfolding sheetOf
   writes p q h e =
       let k : length (sheetBytes f t) ≡ sheetSize f t = length-sheet in
       let r : q ≡ sheetBytes f t ++ drop (sheetSize f t) p =
       e ∙ sets-front (sheetBytes f t) p (rw k h) ∙ ap (λ (n : ℕ). sheetBytes f t ++ drop n p) k in
-      tells sheetOutcomeTold (rw (le-ltb (length p) (sheetSize f t) h) (ap (sheetOutcome (S.Written (sheetSize f t))) r))
+      tells sheetOutcomeTold (rw (le-ltb (length p) (sheetSize f t) h) (ap (sheetOutcome (S.Made (sheetSize f t))) r))

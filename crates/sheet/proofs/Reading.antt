@@ -1,5 +1,5 @@
--- What may be read off a sheet: its length, and its page's; line i is of entry i alone; each byte of a line but the last is printable, and the last is a line feed; two tables
--- with the same sheet have as many entries, with the same names as printed, bases, lengths and marks. Assumes nothing.
+-- What may be read off a sheet: line i is of entry i alone; each byte of a line but the last is printable, and the last is a line feed; two tables with the same
+-- sheet have as many entries, with the same names as printed, bases, lengths and marks. That a page keeps its length. Assumes nothing.
 use mathlib.Core.Path.{_≡_, refl, sym, ap, _∙_}
 use mathlib.Core.Bool.{Bool, true, false, _&&_}
 use mathlib.Core.Logic.{⊎-elim}
@@ -16,8 +16,8 @@ use Rattle.base.proofs.Ranges.{below-or-not, by-test}
 use Rattle.base.proofs.Tests.{split, and-true}
 use Rattle.field.specs.Field.{le, fieldSize}
 use Rattle.field.specs.declared.Width.{Width}
-use Rattle.field.proofs.Laws.{le-step, memory-most}
-use Rattle.entry.specs.Entry.{entrySize, entriesIn, entryOf}
+use Rattle.field.proofs.Laws.{le-below, memory-most}
+use Rattle.entry.specs.Entry.{entrySize, entriesIn, entryOf, entryIn}
 use Rattle.entry.specs.declared.RamdumpTable64.{RamdumpTable64}
 use Rattle.entry.proofs.Laws.{number-within}
 use Rattle.filename.specs.Filename.{before}
@@ -32,13 +32,12 @@ use Rattle.sheet.specs.Sheet.{
   mark,
   textOf,
   lineOf,
-  entryIn,
   linesOf,
   sheetBytes,
   sheetSize,
   sheetOf,
 }
-use Rattle.sheet.specs.Reading.{Bytes, Printable, valueOf, numberOf, Alike}
+use Rattle.sheet.specs.Reading.{AllBytes, Printable, valueOf, numberOf, Alike}
 use Rattle.sheet.proofs.Laws.{length-hex, length-columns, length-text, length-line, name-20, length-lines, length-sheet}
 
 -- ---- printable
@@ -114,7 +113,7 @@ module _ (f : ℕ) (t : List ℕ) where
       (λ h. rw h refl)
       (λ h. let k : sheetSize f t ≤ length p = ltb-false (length p) (sheetSize f t) h in rw h (simp (length-append, length-drop, length-sheet f t) (omega arith)))
 
-  -- line i is of entry i alone
+  -- a line of the first n
   lines-at : (n i : ℕ) → i < n → n ≤ entriesIn f (length t) → take 57 (drop (57 * i) (linesOf f t n)) ≡ lineOf (entryIn f t i)
   unfolding linesOf
   lines-at zero i l h = absurd (omega arith)
@@ -135,6 +134,7 @@ module _ (f : ℕ) (t : List ℕ) where
       (below-or-not i n)
 
   module _ (i : ℕ) (h : i < entriesIn f (length t)) where
+    -- line i is of entry i alone
     pub line-at : take 57 (drop (57 * i) (sheetBytes f t)) ≡ lineOf (entryIn f t i)
     line-at = lines-at (entriesIn f (length t)) i h (omega arith)
 
@@ -248,13 +248,7 @@ alike a b p q ab bb al bl e =
 
 -- ---- two tables
 
--- w bytes write a number below 256 ^ w
-le-below : (w at : ℕ) (s : List ℕ) → Bytes s → le w (drop at s) < 256 ^ w
-unfolding le
-le-below zero at s h = omega (arith, pow-zero 256)
-le-below (suc w) at s h = rw (le-step w at s, pow-suc 256 w) (omega (arith, le-below w (suc at) s h, h at))
-
-module _ (v : Width) (t : List ℕ) (h : Bytes t) (i : ℕ) where
+module _ (v : Width) (t : List ℕ) (h : AllBytes t) (i : ℕ) where
   -- a number of an entry is one that 16 digits hold
   number-below : (k : ℕ) → k + fieldSize v ≤ entrySize (fieldSize v) → le (fieldSize v) (drop k (entryOf (fieldSize v) t i)) < 16 ^ 16
   number-below k l =
@@ -268,7 +262,7 @@ module _ (v : Width) (t : List ℕ) (h : Bytes t) (i : ℕ) where
   len-below = number-below (2 * fieldSize v) (omega arith)
 
 -- tables of either width with the same sheet have as many entries, and these are alike
-pub same-sheet : (v w : Width) (t u : List ℕ) → Bytes t → Bytes u → sheetBytes (fieldSize v) t ≡ sheetBytes (fieldSize w) u
+pub same-sheet : (v w : Width) (t u : List ℕ) → AllBytes t → AllBytes u → sheetBytes (fieldSize v) t ≡ sheetBytes (fieldSize w) u
     → (entriesIn (fieldSize v) (length t) ≡ entriesIn (fieldSize w) (length u))
     × ((i : ℕ) → i < entriesIn (fieldSize v) (length t) → Alike (entryIn (fieldSize v) t i) (entryIn (fieldSize w) u i))
 same-sheet v w t u bt bu e =

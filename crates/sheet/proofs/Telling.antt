@@ -10,10 +10,10 @@ use Rattle.sheet.specs.declared.Sheet.{Sheet}
 use Rattle.sheet.specs.declared.Sheet.the-variants as S
 
 abbrev sheetFrom : Told → Sheet
-sheetFrom t = pick (eqb (t .number) 0) (S.Written (getD (t .values) 0 0)) (S.Refused (getD (t .values) 0 0))
+sheetFrom t = pick (eqb (t .number) 0) (S.Made (getD (t .values) 0 0)) (S.Refused (getD (t .values) 0 0))
 
 sheet-back : (x : Sheet) → sheetFrom (sheetTold x) ≡ x
-sheet-back (S.Written k) = refl
+sheet-back (S.Made k) = refl
 sheet-back (S.Refused why) = refl
 
 pub sheet-apart : (x y : Sheet) → sheetTold x ≡ sheetTold y → x ≡ y

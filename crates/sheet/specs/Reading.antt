@@ -9,15 +9,15 @@ use Rattle.entry.specs.declared.RamdumpTable64.{RamdumpTable64}
 use Rattle.sheet.specs.Sheet.{columns}
 
 -- each of a list's elements is a byte
-abbrev pub Bytes : List ℕ → Type 0
-Bytes s = (i : ℕ) → getD s i 0 < 256
+abbrev pub AllBytes : List ℕ → Type 0
+AllBytes s = (i : ℕ) → getD s i 0 < 256
 
 -- a character that moves no cursor but by one column, and ends no line
 pub record Printable (b : ℕ) : Type 0 where
   pub least : 0x20 ≤ b
   pub most : b ≤ 0x7E
 
--- the number that a digit stands for, and the one that digits write behind those that write n
+-- a digit's value; the number that digits write behind a beginning that writes n
 unfoldable pub valueOf : ℕ → ℕ
 valueOf c = pick (ltb c 0x41) (c - 0x30) (c - 0x41 + 10)
 

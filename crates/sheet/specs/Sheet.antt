@@ -2,7 +2,7 @@
 -- a space, base in 16 capital hexadecimal digits, a space, length likewise, a space, then '*' for nonzero preference or a blank, then a line feed: 57 bytes. The
 -- name stops at its first zero byte and is padded with blanks; bytes outside 0x20..0x7E print as '?'. Entries of 32 bits use the same widths. An empty table
 -- prints nothing. 25 when the lent page is shorter than 57 times the entries, page untouched." The width f of an entry's numbers, 8 or 4 bytes, is a parameter,
--- as in entry/specs/Entry; its entries are those, decoded, so that a line is of an entry of either.
+-- as in entry/specs/Entry. A line is of a decoded entry, its numbers already widened: one rule for both widths.
 use Prim.Native.Nat.{ℕ, zero, suc, _+_, _-_, _*_, _/_, _%_}
 use mathlib.Core.Bool.{_&&_}
 use mathlib.Core.List.{List, [], _∷_, _++_, map}
@@ -10,13 +10,13 @@ use lib.Dec.{ltb, leb, eqb}
 use lib.ListN.{length, drop, replicate}
 use Rattle.base.specs.Choice.{pick}
 use Rattle.base.specs.Told.{Told, told, toldRefused}
-use Rattle.entry.specs.Entry.{entriesIn, entryOf, decoded}
+use Rattle.entry.specs.Entry.{entriesIn, entryIn}
 use Rattle.entry.specs.declared.RamdumpTable64.{RamdumpTable64}
 use Rattle.filename.specs.Filename.{before}
 use Rattle.sheet.specs.declared.Sheet.{Sheet}
 use Rattle.sheet.specs.declared.Sheet.the-variants as S
 
--- characters
+-- characters; the request's "space" and "blank" are one
 abbrev pub blank : ℕ
 blank = 0x20
 
@@ -50,20 +50,17 @@ hex (suc k) v = hex k (v / 16) ++ digit (v % 16) ∷ []
 unfoldable pub mark : ℕ → ℕ
 mark preference = pick (eqb preference 0) blank star
 
--- the line of an entry: its text, "then a line feed"
+-- "filename in 20 columns, a space, base in 16 capital hexadecimal digits, a space, length likewise, a space, then '*' .. or a blank"
 unfoldable pub textOf : RamdumpTable64 → List ℕ
 textOf e = columns (e .filename) ++ (blank ∷ hex 16 (e .base) ++ (blank ∷ hex 16 (e .len) ++ (blank ∷ mark (e .«save_pref») ∷ [])))
 
+-- "then a line feed"
 unfoldable pub lineOf : RamdumpTable64 → List ℕ
 lineOf e = textOf e ++ lineFeed ∷ []
 
 -- "57 bytes"
 abbrev pub lineSize : ℕ
 lineSize = 57
-
--- entry i of a table
-abbrev pub entryIn : ℕ → List ℕ → ℕ → RamdumpTable64
-entryIn f t i = decoded f (entryOf f t i)
 
 -- the lines of a table's first k entries
 unfoldable pub linesOf : ℕ → List ℕ → ℕ → List ℕ
@@ -88,7 +85,7 @@ sheetOutcome s p = record { sheet = s; page = p }
 
 -- what the answer tells: an operation that accepts tells go, here with the bytes written
 abbrev pub sheetTold : Sheet → Told
-sheetTold (S.Written k) = told 0 (k ∷ [])
+sheetTold (S.Made k) = told 0 (k ∷ [])
 sheetTold (S.Refused why) = toldRefused why
 
 abbrev pub sheetOutcomeTold : SheetOutcome → Told
@@ -99,4 +96,4 @@ unfoldable pub sheetOf : ℕ → List ℕ → List ℕ → SheetOutcome
 sheetOf f t p =
     pick (ltb (length p) (sheetSize f t))
     (sheetOutcome (S.Refused 25) p)
-    (sheetOutcome (S.Written (sheetSize f t)) (sheetBytes f t ++ drop (sheetSize f t) p))
+    (sheetOutcome (S.Made (sheetSize f t)) (sheetBytes f t ++ drop (sheetSize f t) p))

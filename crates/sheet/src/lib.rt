@@ -26,9 +26,9 @@ ghost use Rattle.sheet.specs.Sheet.{
   sheetOf,
 };
 
-// How many bytes of the page were written, or the refusal.
+// How many bytes of the page are the sheet, or the refusal.
 pub enum Sheet {
-    Written(usize),
+    Made(usize),
     Refused(u8),
 }
 
@@ -86,7 +86,7 @@ fn hex_digit(d: u8) -> u8
     b'A' + (d - 10)
 }
 
-// Writes a number in 16 digits, the last one first.
+// Writes a number in 16 hexadecimal digits, stored from the last one back.
 fn put_hex(page: &mut [u8], at: usize, v: u64)
     requires { ⌜ at + 16 ≤ length (now page) ⌝ }
     ensures { λ _. ⌜ now (page .exit) ≡ sets (now (page .entry)) at (hex 16 v) ⌝ }
@@ -149,5 +149,5 @@ pub fn region_sheet(table: &[u8], width: Width, page: &mut [u8]) -> Sheet
         return Sheet::Refused(25);
     }
     put_lines(page, table, width, n);
-    Sheet::Written(LINE * n)
+    Sheet::Made(LINE * n)
 }

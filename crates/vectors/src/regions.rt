@@ -118,7 +118,7 @@ pub(crate) fn next(line: &[u8]) {
 
 fn sheet_into(table: &[u8], width: Width, page: &mut [u8]) {
     match region_sheet(table, width, page) {
-        Sheet::Written(k) => show::number(k),
+        Sheet::Made(k) => show::number(k),
         Sheet::Refused(why) => show::refused(why),
     }
     show::text(b" ");

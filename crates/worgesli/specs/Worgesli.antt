@@ -25,10 +25,10 @@ nextRaw t n entries names from =
     pick (isWidth n) (nextOf (fieldSize (widthOf n)) names t (entries - from) from) (from + (entries - from))
 
 -- the region sheet; of a number that is no width there is no entry, and nothing is written
-unfoldable pub sheetIn : List ℕ → ℕ → List ℕ → SheetOutcome
-sheetIn t n p = pick (isWidth n) (sheetOf (fieldSize (widthOf n)) t p) (sheetOutcome (S.Written 0) p)
+unfoldable pub sheetRaw : List ℕ → ℕ → List ℕ → SheetOutcome
+sheetRaw t n p = pick (isWidth n) (sheetOf (fieldSize (widthOf n)) t p) (sheetOutcome (S.Made 0) p)
 
--- its numbers, and the page afterwards
+-- an answer's numbers, and the page afterwards
 pub record PageOutcome : Type 0 where
   pub sheet : RawSheet
   pub page : List ℕ
@@ -36,8 +36,8 @@ pub record PageOutcome : Type 0 where
 abbrev pub pageOutcome : RawSheet → List ℕ → PageOutcome
 pageOutcome s p = record { sheet = s; page = p }
 
-unfoldable pub sheetRaw : List ℕ → ℕ → List ℕ → PageOutcome
-sheetRaw t n p = pageOutcome (rawSheet (sheetIn t n p .sheet)) (sheetIn t n p .page)
+abbrev pub crossed : SheetOutcome → PageOutcome
+crossed x = pageOutcome (rawSheet (x .sheet)) (x .page)
 
 -- Reset: its number, and the out buffer afterwards
 pub record ResetOutcome : Type 0 where

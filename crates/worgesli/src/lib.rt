@@ -25,7 +25,7 @@ ghost use Rattle.raw.specs.Raw.{isSession, openedRaw, steppedAt, toldIn};
 ghost use Rattle.raw_packet.specs.RawPacket.{rawPacket};
 ghost use Rattle.raw_records.specs.Records.{rawEntry, rawRange, checkedNumber};
 ghost use Rattle.raw_step.specs.RawStep.{rawOutcome, stepRaw, rawAt, waitsAt, closedRaw, wantedRaw};
-ghost use Rattle.worgesli.specs.Worgesli.{entryRaw, nextRaw, pageOutcome, sheetRaw, resetOutcome, resetRaw};
+ghost use Rattle.worgesli.specs.Worgesli.{entryRaw, nextRaw, pageOutcome, crossed, sheetRaw, resetOutcome, resetRaw};
 
 // The number of this interface: another where a struct or a function of it is another.
 #[no_mangle]
@@ -218,10 +218,10 @@ pub extern "C" fn worgesli_next_selected(
 // The region sheet of a table of a width of 32 or 64 bits, written to a page. Of any other width there is no entry, and nothing is written.
 #[no_mangle]
 pub extern "C" fn worgesli_region_sheet(table: &[u8], width: u64, page: &mut [u8]) -> RawSheet
-    ensures { λ r. ⌜ pageOutcome r (now (page .exit)) ≡ sheetRaw (now (table .entry)) width (now (page .entry)) ⌝ }
+    ensures { λ r. ⌜ pageOutcome r (now (page .exit)) ≡ crossed (sheetRaw (now (table .entry)) width (now (page .entry))) ⌝ }
 {
     if !raw::is_width(width) {
-        return raw_records::raw_sheet(Sheet::Written(0));
+        return raw_records::raw_sheet(Sheet::Made(0));
     }
     raw_records::raw_sheet(region_sheet(table, raw::width_of(width), page))
 }

@@ -16,7 +16,7 @@ cast-t5 : tie.Need-cast-t5
 cast-t5 c = search needs
 
 returns : tie.Need-returns
-returns c = let e : c .before .before .before .args .x ≡ S.Written (c .before .x .given .0 .0) = cc in sym (ap rawSheet e)
+returns c = let e : c .before .before .before .args .x ≡ S.Made (c .before .x .given .0 .0) = cc in sym (ap rawSheet e)
 
 returns-2 : tie.Need-returns-2
 returns-2 c = let e : c .before .before .before .args .x ≡ S.Refused (c .before .x2 .given .0 .0) = cc in sym (ap rawSheet e)

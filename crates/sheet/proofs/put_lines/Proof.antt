@@ -8,9 +8,10 @@ use denote.Ref.{now}
 use lib.ListN.{length}
 use lib.Seq.{sets, length-sets}
 use Rattle.field.specs.Field.{fieldSize}
+use Rattle.entry.specs.Entry.{entryIn}
 use Rattle.entry.specs.declared.EntryAt.{EntryAt}
 use Rattle.entry.specs.declared.RamdumpTable64.{RamdumpTable64}
-use Rattle.sheet.specs.Sheet.{lineOf, entryIn, linesOf}
+use Rattle.sheet.specs.Sheet.{lineOf, linesOf}
 use Rattle.sheet.proofs.Laws.{entry-found, lines-more}
 use borrow.Author.Needs.{needs}
 use Rattle.sheet.proofs.put_lines.Statement.{statement}

@@ -8,7 +8,8 @@ use denote.Ref.{now}
 use lib.ListN.{length, getD, take, set, length-set}
 use lib.Seq.{sets, take-all}
 use Rattle.sheet.specs.Sheet.{columns}
-use Rattle.sheet.proofs.Laws.{length-columns, take-more}
+use Rattle.base.proofs.Lists.{sets-take-more}
+use Rattle.sheet.proofs.Laws.{length-columns}
 use borrow.Author.Needs.{needs}
 use Rattle.sheet.proofs.put_name.Statement.{statement}
 use Rattle.sheet.proofs.put_name.Tie as tie
@@ -47,7 +48,7 @@ loop-again c =
     let s : List ℕ = columns (now (a .name)) in
     let n : length s ≡ 20 = length-columns (now (a .name)) (omega arith) in
     let e : set (l .page) (a .at + l .j) (getD s (l .j) 0) ≡ sets (now (a .page)) (a .at) (take (suc (l .j)) s) =
-    ap (λ (p : List ℕ). set p (a .at + l .j) (getD s (l .j) 0)) (l .inv .2) ∙ sym (take-more s (now (a .page)) (a .at) (l .j) (omega arith)) in
+    ap (λ (p : List ℕ). set p (a .at + l .j) (getD s (l .j) 0)) (l .inv .2) ∙ sym (sets-take-more s (now (a .page)) (a .at) (l .j) (omega arith)) in
     (omega arith, simp length-set (omega arith), rw (add-one, c .column .ensures) e)
 
 same-length : tie.Need-same-length Inv-loop μ-loop

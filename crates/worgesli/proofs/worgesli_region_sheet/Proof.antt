@@ -5,24 +5,20 @@ use mathlib.Core.List.{List}
 use Prim.Native.Nat.{ℕ}
 use borrow.Author.Tests.{not-true, not-false}
 use Rattle.field.specs.Field.{fieldSize}
-use Rattle.sheet.specs.Sheet.{SheetOutcome, sheetOutcome, sheetOf}
+use Rattle.sheet.specs.Sheet.{sheetOutcome, sheetOf}
 use Rattle.sheet.specs.declared.Sheet.the-variants as S
 use Rattle.raw.specs.Raw.{widthOf, isWidth}
-use Rattle.raw_records.specs.Records.{rawSheet}
-use Rattle.worgesli.specs.Worgesli.{PageOutcome, pageOutcome, sheetIn, sheetRaw}
+use Rattle.worgesli.specs.Worgesli.{crossed, sheetRaw}
 use borrow.Author.Needs.{needs}
 use Rattle.worgesli.proofs.worgesli_region_sheet.Statement.{statement}
 use Rattle.worgesli.proofs.worgesli_region_sheet.Tie as tie
 
-abbrev crossed : SheetOutcome → PageOutcome
-crossed x = pageOutcome (rawSheet (x .sheet)) (x .page)
-
-no-width : (t : List ℕ) (n : ℕ) (p : List ℕ) → isWidth n ≡ false → crossed (sheetOutcome (S.Written 0) p) ≡ sheetRaw t n p
-unfolding sheetIn sheetRaw
+no-width : (t : List ℕ) (n : ℕ) (p : List ℕ) → isWidth n ≡ false → sheetOutcome (S.Made 0) p ≡ sheetRaw t n p
+unfolding sheetRaw
 no-width t n p e = rw e refl
 
-a-width : (t : List ℕ) (n : ℕ) (p : List ℕ) → isWidth n ≡ true → crossed (sheetOf (fieldSize (widthOf n)) t p) ≡ sheetRaw t n p
-unfolding sheetIn sheetRaw
+a-width : (t : List ℕ) (n : ℕ) (p : List ℕ) → isWidth n ≡ true → sheetOf (fieldSize (widthOf n)) t p ≡ sheetRaw t n p
+unfolding sheetRaw
 a-width t n p e = rw e refl
 
 is-width-requires : tie.Need-is-width-requires
@@ -34,7 +30,7 @@ raw-sheet-requires c κs = search needs
 returns : tie.Need-returns
 returns c =
     let w = c .before in
-    rw (c .raw-sheet .ensures) (no-width _ _ _ (sym (w .before .is-width .ensures) ∙ not-true _ (w .if1 .taken)))
+    rw (c .raw-sheet .ensures) (ap crossed (no-width _ _ _ (sym (w .before .is-width .ensures) ∙ not-true _ (w .if1 .taken))))
 
 width-of-requires : tie.Need-width-of-requires
 width-of-requires c κs = search needs
@@ -55,7 +51,7 @@ returns-2 c =
     let w = v .before in
     let e = r .region-sheet .ensures .is in
     rw (c .raw-sheet2 .ensures)
-    (ap crossed e ∙ rw (v .width-of .ensures) (a-width _ _ _ (sym (w .before .is-width .ensures) ∙ not-false _ (w .if1 .left))))
+    (ap crossed (e ∙ rw (v .width-of .ensures) (a-width _ _ _ (sym (w .before .is-width .ensures) ∙ not-false _ (w .if1 .left)))))
 
 pub worgesli-region-sheet-spec : {M : Type 1} → statement M
 worgesli-region-sheet-spec =
