@@ -51,7 +51,7 @@ returns-2 c =
     let w = v .before in
     let e = r .region-sheet .ensures .is in
     rw (c .raw-sheet2 .ensures)
-    (ap crossed (e ∙ rw (v .width-of .ensures) (a-width _ _ _ (sym (w .before .is-width .ensures) ∙ not-false _ (w .if1 .left)))))
+    (ap crossed e ∙ rw (v .width-of .ensures) (ap crossed (a-width _ _ _ (sym (w .before .is-width .ensures) ∙ not-false _ (w .if1 .left)))))
 
 pub worgesli-region-sheet-spec : {M : Type 1} → statement M
 worgesli-region-sheet-spec =
