@@ -10,6 +10,7 @@ mod operations;
 mod panics;
 mod resync;
 mod saved;
+mod sheet;
 mod steps;
 mod widths;
 mod world;
