@@ -12,5 +12,6 @@ mod resync;
 mod saved;
 mod sheet;
 mod steps;
+mod told;
 mod widths;
 mod world;
