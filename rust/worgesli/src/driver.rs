@@ -231,12 +231,14 @@ impl Driver {
             self.settle(channel, sink)?;
         }
         self.drain(channel)?;
+        // an answer that came behind a resync and is not trusted yet: what would have shown that it was another was heard just now
+        let doubted = s.reads > self.doubt;
         match (phase, self.owed) {
             // it is still to be sent, and counted already
             (_, Owed::Send(..)) => (self.to, self.doubt) = (self.from, s.reads.saturating_sub(1)),
-            (Phase::Table, _) => self.table_again(),
-            (Phase::Region, _) => self.chunk_again(if s.outstanding > 0 { self.asked } else { s.done }),
-            _ => self.doubt = s.reads,
+            (Phase::Region, _) => self.chunk_again(if s.outstanding > 0 || doubted { self.asked } else { s.done }),
+            (Phase::Between, _) if !doubted => self.doubt = s.reads,
+            _ => self.table_again(),
         }
         self.reopen(sink)
     }
@@ -264,15 +266,18 @@ impl Driver {
             // it still comes
             _ => return Ok(()),
         };
-        if self.drain(channel)? == 0 {
+        let heard = self.drain(channel);
+        if let Ok(0) = heard {
             self.doubt = u64::MAX;
             return Ok(());
         }
+        // of a channel that failed it is not known what it said before
         match in_region {
             true => self.chunk_again(self.asked),
             false => self.table_again(),
         }
-        Err(Error::Channel(io::Error::new(ErrorKind::InvalidData, "more came than was asked for: it is asked for again")))
+        let more = io::Error::new(ErrorKind::InvalidData, "more came than was asked for: it is asked for again");
+        heard.and(Err(Error::Channel(more)))
     }
 
     /// The table is to be asked for anew.

@@ -1,5 +1,5 @@
 //! The table as a sink is told it: when it is whole, before any region, once; and again where the first time failed or was another process's.
-use crate::resync::{bytes_of, two_regions};
+use crate::resync::{bytes_of, two_regions, Pauses};
 use crate::world::{host_width, worlds, Cut, Record, World};
 use device::{Device, Division, Faults, Memory, Region, Width, Wire};
 use std::io::{self, ErrorKind};
@@ -372,6 +372,83 @@ fn a_byte_is_lost() {
             sink.table_first(&w);
             assert!(sink.to.0 .0 == w.kept(), "byte {at}, {w:?}");
         }
+    }
+}
+
+/// Fails once, where it is to, behind a read that gave bytes.
+struct Breaks(Pauses, bool, bool);
+
+impl io::Read for Breaks {
+    fn read(&mut self, to: &mut [u8]) -> io::Result<usize> {
+        if self.1 && self.2 {
+            self.1 = false;
+            return Err(ErrorKind::ConnectionReset.into());
+        }
+        let read = self.0.read(to);
+        self.2 = read.as_ref().is_ok_and(|n| *n > 0);
+        read
+    }
+}
+
+impl io::Write for Breaks {
+    fn write(&mut self, bytes: &[u8]) -> io::Result<usize> {
+        self.0.write(bytes)
+    }
+    fn flush(&mut self) -> io::Result<()> {
+        self.0.flush()
+    }
+}
+
+/// A device that pauses: what is asked for again comes behind late bytes, and the mixture of both is not told, nor kept; not by a run that is restored or given up
+/// in doubt, and not by one that has heard the bytes that would have shown it, in a resync more or before the channel failed.
+#[test]
+fn late_bytes() {
+    for (way, width) in Width::with_both([0, 1, 2, 3, 4]) {
+        let w = two_regions(width, Backend::Serial);
+        let mut mixed = 0;
+        for at in bytes_of(&w).step_by(if way == 0 { 7 } else { 3 }) {
+            let mut channel = Breaks(Pauses(wire(&w, Division::Whole, at), at, 2), false, false);
+            let (mut run, mut sink) = (w.options().start().unwrap(), Ear::new(Cut::default()));
+            assert!(matches!(run.run(&mut channel, &mut sink, |_| ()), Err(Error::TimedOut(_))), "byte {at}");
+            run.resync(&mut channel, &mut sink).unwrap();
+            // the answer is there, and not yet trusted
+            let reads = run.session().reads();
+            while still_comes(&run, reads) {
+                run.step(&mut channel, &mut sink, |_| ()).unwrap();
+            }
+            mixed += u64::from(run.table() != w.memory.table());
+            match way {
+                0 => {}
+                1 => (run, sink) = (w.options().restore(&run.save()).unwrap(), sink.in_another()),
+                2 => {
+                    // a sink of its own: that of the region is still needed
+                    let mut other = Ear::new(Cut::default());
+                    let mut given_up = w.options().restore(&run.save()).unwrap();
+                    let _ = given_up.close(&mut other);
+                    assert!(other.heard.iter().all(|h| !matches!(h, Heard::Table(..)) || *h == table(&w)));
+                }
+                3 => {
+                    (run, sink) = (w.options().restore(&run.save()).unwrap(), sink.in_another());
+                    run.resync(&mut channel, &mut sink).unwrap();
+                }
+                _ => (channel.1, channel.2) = (true, false),
+            }
+            run_on(&mut run, &mut channel, &mut sink);
+            sink.table_first(&w);
+            assert!(sink.to.0 .0 == w.kept(), "byte {at}, {w:?}");
+            assert_eq!((run.table() == w.memory.table(), channel.0 .0.device.queued()), (true, 0));
+        }
+        assert!(mixed > 20, "{mixed}");
+    }
+}
+
+/// Whether what a resync asked for again, behind so many memory reads, still comes.
+fn still_comes(run: &Driver, reads: u64) -> bool {
+    let s = run.session();
+    match s.phase() {
+        Phase::Table => true,
+        Phase::Region => s.reads() == reads || s.raw().outstanding > 0,
+        _ => false,
     }
 }
 
