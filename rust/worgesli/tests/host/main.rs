@@ -11,6 +11,7 @@ mod panics;
 mod resync;
 mod saved;
 mod sheet;
+mod sheet_files;
 mod steps;
 mod told;
 mod widths;
