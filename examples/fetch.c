@@ -5,7 +5,8 @@
  * The device may be one of 64 bits or an older one of 32. PORT is a path, or the number of a descriptor that was inherited. A terminal is made raw; its
  * speed stays as it is. Each selected region goes to a file of its own in FOLDER, which is made if need be: to FILE.part while its bytes come, and under
  * its final name only when it is whole and on the disk. A NAME is a filename up to its first '.', in any case ("ocimem"); with none, the device's
- * preference decides. -u: the device follows the rules of USB. -t: how long a silent device is waited for at a time, 5 times in a row. The exit status is
+ * preference decides. Before the first region the device's list of all of them goes to standard output: filename, base, length, and '*' where the device
+ * prefers the region. -u: the device follows the rules of USB. -t: how long a silent device is waited for at a time, 5 times in a row. The exit status is
  * 0 when every selected region is whole and there was one, 2 for a wrong call, else 1; then what came of a region that is not whole is still there, as
  * FILE.part. The device is not reset.
  */
@@ -193,6 +194,14 @@ static void end_region(void)
 
 /* ---- the fetch */
 
+/* The table is whole: all its regions, a line each, now and not when the fetch has ended. What is not printable in a filename is '?' there. */
+static void print_sheet(const uint8_t *table, size_t table_len, uint64_t width)
+{
+    static uint8_t page[WORGESLI_SHEET_LEN];
+    fwrite(page, 1, worgesli_region_sheet(table, table_len, width, page, sizeof page).written, stdout);
+    fflush(stdout);
+}
+
 static void finished(uint64_t how, uint64_t reads)
 {
     static const char *const ends[] = {[WORGESLI_FINISHED_IMAGES_SENT] = "it is done", [WORGESLI_FINISHED_RESET] = "it resets",
@@ -222,6 +231,9 @@ static void fetch(uint32_t backend, const uint8_t *names, size_t names_len)
         const worgesli_placed r = worgesli_step_at(&session, &lent, in + from, to - from);
         switch (r.answer) {
         case WORGESLI_ANSWER_GO:
+            if (session.phase == WORGESLI_PHASE_BETWEEN)
+                print_sheet(table, session.count, session.width);
+            break;
         case WORGESLI_ANSWER_EMPTY_READ: /* over libusb: a bulk transfer of length 0. A descriptor's driver takes empty packets itself */
             break;
         case WORGESLI_ANSWER_SEND:

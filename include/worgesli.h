@@ -43,6 +43,8 @@ extern "C" {
 #define WORGESLI_OUT_LEN 48
 #define WORGESLI_TABLE_LEN 65536
 #define WORGESLI_SLOTS 64
+#define WORGESLI_SHEET_LINE_LEN 57
+#define WORGESLI_SHEET_LEN 71820 /* the longest sheet of a table of up to WORGESLI_TABLE_LEN: 1,260 entries of 32 bits */
 
 /* mode */
 #define WORGESLI_MODE_WAITING_FOR_IMAGE 0u
@@ -108,10 +110,10 @@ extern "C" {
 #define WORGESLI_KIND_MEM_READ64 0x11u
 #define WORGESLI_KIND_READ_DATA64 0x12u
 
-/* why a step is refused: number, name (WORGESLI_REFUSED_...) and words (worgesli_refusal_text), the first that applies in the order of the requirement, in which 24
- * stands where 22 does.
+/* what is refused: number, name (WORGESLI_REFUSED_...) and words (worgesli_refusal_text). 25 is a region sheet's (worgesli_region_sheet), and no step's.
+ * A step is refused for the first that applies in the order of the requirement, in which 24 stands where 22 does.
  * 1, 2, 3, 4 and 18 are the caller's: session and buffers are as they were, nothing is taken, and once the bundle or buffer is right the step can be made.
- * Each other ends the session: what was handed out of the open region is as it came, and not all of it. */
+ * Each other that a step is refused for ends the session: what was handed out of the open region is as it came, and not all of it. */
 #define WORGESLI_REFUSALS(X)                                                                                                 \
     X(1, IMAGE_SET, "the image set is malformed: its length, a slot's range, or more than 64 slots")                         \
     X(2, NAME_LIST, "the name list is malformed: its length, a name's range, an absent name, or more than 64 names")         \
@@ -136,7 +138,8 @@ extern "C" {
     X(21, FILENAME_BYTES, "the 20 bytes of a region's filename are not UTF-8")                                               \
     X(22, REGION_END, "a region ends above 2^64")                                                                            \
     X(23, CLOSED, "the channel was closed before the end")                                                                   \
-    X(24, REGION_END_32, "a region of a 32-bit device ends above 2^32")
+    X(24, REGION_END_32, "a region of a 32-bit device ends above 2^32")                                                      \
+    X(25, SHEET_PAGE, "the page has fewer than 57 bytes for each entry of the table")
 
 /* A session. Numbers that its phase does not use are 0. Keep it as it is: other bits are refused. A copy is a session of its own. */
 typedef struct worgesli_session {
@@ -183,6 +186,12 @@ typedef struct worgesli_entry {
     uint8_t filename[20];
     uint32_t there;
 } worgesli_entry;
+
+/* What was written of a region sheet. */
+typedef struct worgesli_sheet {
+    size_t written;   /* bytes of the page, from its first on: WORGESLI_SHEET_LINE_LEN for each entry */
+    uint32_t refused; /* 0; 25: the page is shorter than that, and is as it was */
+} worgesli_sheet;
 
 /* A range of an image set's bytes; refused not 0: why there is none. */
 typedef struct worgesli_range {
@@ -268,6 +277,12 @@ worgesli_entry worgesli_entry_at(const uint8_t *table, size_t table_len, uint64_
 /* The first selected entry from `from` on and before `entries`; where there is none, `entries` (`from` if that is not below it). No entry behind the
  * table's end is selected or looked at: `entries` may be SIZE_MAX. Of a number that is no width none is selected. */
 size_t worgesli_next_selected(const uint8_t *table, size_t table_len, uint64_t width, size_t entries, const uint8_t *names, size_t names_len, size_t from);
+
+/* The region sheet of a table of this width, for people: a line for each entry, whether it is selected or not. A line has the filename in 20 columns, the base
+ * and the length in 16 capital hexadecimal digits each, '*' where the device prefers the region, else a blank, and a blank between any two; then a line feed.
+ * The filename stops at its first zero byte, and each byte outside 0x20 to 0x7E is a '?', so that a device's bytes do nothing to a terminal. A part of an entry
+ * behind the last whole one is ignored; a table of a number that is no width has no entry. The page may be longer than the sheet: its rest is as it was. */
+worgesli_sheet worgesli_region_sheet(const uint8_t *table, size_t table_len, uint64_t width, uint8_t *page, size_t page_len);
 
 /* Whether the bytes are UTF-8. */
 bool worgesli_utf8(const uint8_t *bytes, size_t bytes_len);
@@ -396,6 +411,7 @@ WORGESLI_ASSERT(offsetof(worgesli_session, window) == 88, "worgesli_session.wind
 WORGESLI_ASSERT(sizeof(worgesli_stepped) == 168, "worgesli_stepped");
 WORGESLI_ASSERT(sizeof(worgesli_placed) == 40, "worgesli_placed");
 WORGESLI_ASSERT(sizeof(worgesli_entry) == 72, "worgesli_entry");
+WORGESLI_ASSERT(sizeof(worgesli_sheet) == 16, "worgesli_sheet");
 WORGESLI_ASSERT(sizeof(worgesli_range) == 24, "worgesli_range");
 WORGESLI_ASSERT(sizeof(worgesli_packet) == 64, "worgesli_packet");
 

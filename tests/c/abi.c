@@ -504,6 +504,59 @@ static void limits(void)
     EXPECT(worgesli_abi() == WORGESLI_ABI && WORGESLI_ABI_SYMBOL() == WORGESLI_ABI);
 }
 
+/* ---- the region sheet */
+
+/* The sheet of the table's first n bytes on a page of so many: this text, and the rest of the page as it was; or, where the page is too short, all of it. */
+static void sheet_is(const uint8_t *of, size_t n, uint64_t width, const char *text, size_t room)
+{
+    static uint8_t page[512];
+    const size_t len = strlen(text);
+    EXPECT(room < sizeof page);
+    memset(page, 0x5a, sizeof page);
+    const worgesli_sheet r = worgesli_region_sheet(of, n, width, page, room);
+    EXPECT(r.refused == (room < len ? WORGESLI_REFUSED_SHEET_PAGE : 0) && r.written == (room < len ? 0 : len));
+    EXPECT(memcmp(page, text, r.written) == 0);
+    for (size_t i = r.written; i < sizeof page; i++)
+        EXPECT(page[i] == 0x5a);
+}
+
+static void sheets(void)
+{
+    static const char lines[] = "OCIMEM.BIN           0000000014680000 00000000FFFFFFFF *\n"
+                                "?[2J? ~??            0000000000000000 0000000000000010  \n"
+                                "ABCDEFGHIJKLMNOPQRST 00000000DEADBEEF 0000000000000000 *\n";
+    static const uint64_t no_widths[] = {0, 31, 33, 52, 63, 65, UINT64_C(1) << 32 | 32, UINT64_MAX};
+    static uint8_t longest[WORGESLI_TABLE_LEN], page[WORGESLI_SHEET_LEN];
+    EXPECT(sizeof lines - 1 == 3 * WORGESLI_SHEET_LINE_LEN && WORGESLI_REFUSED_SHEET_PAGE == 25);
+    for (size_t w = 0; w < 2; w++) {
+        const size_t n = widths[w].entry;
+        const uint64_t width = widths[w].width;
+        fill();
+        entry(table, w, 1, 0x14680000, 0xFFFFFFFFu, "OCIMEM.BIN");
+        entry(table + n, w, 0, 0, 16, "\033[2J\177 ~\200\377");
+        entry(table + 2 * n, w, 0x80000000u, 0xDEADBEEFu, 0, "ABCDEFGHIJKLMNOPQRST");
+        for (size_t room = 0; room < 200; room++)
+            sheet_is(table, 3 * n, width, lines, room);
+        /* whole entries alone */
+        for (size_t i = 0; i < n; i++) {
+            sheet_is(table, 3 * n + (i < 20 ? i : 0), width, lines, 171);
+            sheet_is(table, i, width, "", i);
+        }
+        sheet_is(table, n, width, "OCIMEM.BIN           0000000014680000 00000000FFFFFFFF *\n", 200);
+        table[n - 20] = 0; /* the name's first byte: what is behind it is not the name's */
+        sheet_is(table, n, width, "                     0000000014680000 00000000FFFFFFFF *\n", 57);
+        for (size_t i = 0; i < sizeof no_widths / sizeof no_widths[0]; i++)
+            sheet_is(table, sizeof table, no_widths[i], "", 100), sheet_is(table, sizeof table, no_widths[i], "", 0);
+        const worgesli_sheet r = worgesli_region_sheet(longest, sizeof longest, width, page, sizeof page);
+        EXPECT(r.refused == 0 && r.written == sizeof longest / n * WORGESLI_SHEET_LINE_LEN && (w == 1 || r.written == WORGESLI_SHEET_LEN));
+        EXPECT(worgesli_region_sheet(longest, sizeof longest, width, page, r.written - 1).refused == 25);
+    }
+    /* numbers that only 64 bits have */
+    entry(table, 1, UINT64_C(1) << 32, UINT64_MAX, 0x0123456789ABCDEF, "A"), entry(table + 64, 1, UINT64_C(1) << 63, 1, UINT64_C(1) << 63, "B");
+    sheet_is(table, 128, WORGESLI_WIDTH_64,
+             "A                    FFFFFFFFFFFFFFFF 0123456789ABCDEF *\nB                    0000000000000001 8000000000000000 *\n", 120);
+}
+
 /* ---- NULL with length 0, for every slice */
 
 static void nulls(void)
@@ -529,7 +582,10 @@ static void nulls(void)
     for (uint64_t width = 0; width < 70; width++) {
         EXPECT(worgesli_entry_at(NULL, 0, width, 0).there == 0);
         EXPECT(worgesli_next_selected(NULL, 0, width, 0, NULL, 0, 0) == 0);
+        const worgesli_sheet sheet = worgesli_region_sheet(NULL, 0, width, NULL, 0);
+        EXPECT(sheet.written == 0 && sheet.refused == 0);
     }
+    EXPECT(worgesli_region_sheet(none, sizeof none, 64, NULL, 0).refused == 0 && worgesli_region_sheet(table, 64, 64, NULL, 0).refused == 25);
     EXPECT(worgesli_utf8(NULL, 0));
     EXPECT(worgesli_parse_packet(NULL, 0).refused == 9);
     EXPECT(worgesli_reset(NULL, 0) == 3);
@@ -634,6 +690,7 @@ int main(void)
     ends();
     lends();
     limits();
+    sheets();
     nulls();
     return failed;
 }

@@ -1,4 +1,4 @@
-/* What include/worgesli.h has in line: the refusals' words and the bundles. Compiled and run as C and as C++. */
+/* What include/worgesli.h has in line: the refusals' words and the bundles; and a region sheet by its macros. Compiled and run as C and as C++. */
 #include <stdio.h>
 #include <stdlib.h>
 
@@ -30,16 +30,34 @@ static void words(void)
 {
     const char *none = worgesli_refusal_text(0);
     EXPECT(strcmp(none, "no such refusal") == 0);
-    for (uint64_t n = 1; n <= 24; n++) {
+    for (uint64_t n = 1; n <= 25; n++) {
         EXPECT(strcmp(worgesli_refusal_text(n), none) != 0);
         for (uint64_t m = 1; m < n; m++)
             EXPECT(strcmp(worgesli_refusal_text(n), worgesli_refusal_text(m)) != 0);
     }
-    EXPECT(strcmp(worgesli_refusal_text(25), none) == 0 && strcmp(worgesli_refusal_text(UINT64_MAX), none) == 0);
+    EXPECT(strcmp(worgesli_refusal_text(26), none) == 0 && strcmp(worgesli_refusal_text(UINT64_MAX), none) == 0);
     EXPECT(strcmp(worgesli_refusal_text((UINT64_C(1) << 32) + 1), none) == 0);
     EXPECT(strcmp(worgesli_refusal_text(WORGESLI_REFUSED_CLOSED), "the channel was closed before the end") == 0);
     EXPECT(WORGESLI_REFUSED_IMAGE_SET == 1 && WORGESLI_REFUSED_LIMIT == 18 && WORGESLI_REFUSED_CLOSED == 23);
-    EXPECT(WORGESLI_REFUSED_REGION_END == 22 && WORGESLI_REFUSED_REGION_END_32 == 24);
+    EXPECT(WORGESLI_REFUSED_REGION_END == 22 && WORGESLI_REFUSED_REGION_END_32 == 24 && WORGESLI_REFUSED_SHEET_PAGE == 25);
+    EXPECT(strcmp(worgesli_refusal_text(WORGESLI_REFUSED_SHEET_PAGE), "the page has fewer than 57 bytes for each entry of the table") == 0);
+}
+
+/* ---- a region sheet */
+
+/* The longest table there can be, with a page of the macro's length; one byte less is too short, and the page stays. */
+static void sheet(void)
+{
+    static const char first[] = "A.BIN                0000000000000002 0000000000000003 *\n";
+    static uint8_t table[WORGESLI_TABLE_LEN], page[WORGESLI_SHEET_LEN];
+    table[0] = 1, table[4] = 2, table[8] = 3, memcpy(table + 32, "A.BIN", 5);
+    worgesli_sheet r = worgesli_region_sheet(table, sizeof table, WORGESLI_WIDTH_32, page, sizeof page - 1);
+    EXPECT(r.refused == WORGESLI_REFUSED_SHEET_PAGE && r.written == 0 && page[0] == 0 && page[sizeof page - 2] == 0);
+    r = worgesli_region_sheet(table, sizeof table, WORGESLI_WIDTH_32, page, sizeof page);
+    EXPECT(r.refused == 0 && r.written == sizeof page && r.written == 1260 * WORGESLI_SHEET_LINE_LEN);
+    EXPECT(sizeof first == WORGESLI_SHEET_LINE_LEN + 1 && memcmp(page, first, WORGESLI_SHEET_LINE_LEN) == 0);
+    for (size_t i = 0; i < sizeof page; i++)
+        EXPECT((page[i] == '\n') == (i % WORGESLI_SHEET_LINE_LEN == WORGESLI_SHEET_LINE_LEN - 1));
 }
 
 /* ---- bundles */
@@ -135,6 +153,7 @@ static void random_slots(void)
 int main(void)
 {
     words();
+    sheet();
     known();
     hostile();
     random_slots();

@@ -1,5 +1,6 @@
 //! Fetches the memory of a simulated device over a socket pair that divides its bytes at random, into files, goes on with a saved run in the
-//! middle of it, and compares the files with the device's memory: once of a device of 64 bits, once of an older one of 32, without being told which it is.
+//! middle of it, and compares the files with the device's memory, and the region sheet with its list of regions: once of a device of 64 bits, once of an older
+//! one of 32, without being told which it is.
 //! `demo FOLDER [SEED]`; the files go into a new folder in FOLDER.
 use device::{Device, Memory, Region, Rng, Socket, Width};
 use std::error::Error;
@@ -34,6 +35,25 @@ fn regions(width: Width, rng: &mut Rng) -> Vec<Region> {
         Region::new("EMPTY.BIN", 0x10, 0),
         Region::new("TOP.BIN", width.end_less(70_001), 70_001),
     ]
+}
+
+/// The region sheet that the device's list must give.
+fn lines(regions: &[Region]) -> String {
+    let name = |r: &Region| String::from_utf8_lossy(&r.filename).trim_end_matches('\0').to_owned();
+    let mark = |r: &Region| if r.save_pref == 0 { ' ' } else { '*' };
+    regions.iter().map(|r| format!("{:<20} {:016X} {:016X} {}\n", name(r), r.base, r.len, mark(r))).collect()
+}
+
+/// Prints the region sheet; an error unless it is that of these regions.
+fn show_sheet(sink: &Folder, regions: &[Region]) -> Result<(), Box<dyn Error>> {
+    let path = sink.sheet_path().ok_or("there is no region sheet")?;
+    let sheet = fs::read_to_string(path)?;
+    println!("{} says:", path.display());
+    sheet.lines().for_each(|line| println!("    {line}"));
+    match sheet == lines(regions) {
+        true => Ok(()),
+        false => Err("the region sheet is not the device's list of regions".into()),
+    }
 }
 
 /// Fetches up to the middle of the first region, then saves the run, as before the box is switched off; gives its bytes, and the manifest's path.
@@ -92,6 +112,7 @@ fn fetch(width: Width, seed: u64, folder: &Path) -> Result<(), Box<dyn Error>> {
         "{reads} reads of the socket, {short} gave fewer bytes than asked for; {empty} empty reads; {} ms",
         time.as_millis()
     );
+    show_sheet(&sink, &regions)?;
     println!("{} says:", sink.manifest_path().display());
 
     let mut wrong = 0;

@@ -29,6 +29,14 @@ impl Region {
         Region { save_pref: 0, ..self }
     }
 
+    /// Its line in a region sheet.
+    pub fn line(&self) -> String {
+        let name = self.filename.split(|b| *b == 0).next().unwrap_or_default();
+        let name: String = name.iter().map(|b| if (0x20..0x7f).contains(b) { *b as char } else { '?' }).collect();
+        let mark = if self.save_pref == 0 { ' ' } else { '*' };
+        format!("{name:<20} {:016X} {:016X} {mark}\n", self.base, self.len)
+    }
+
     /// The entry in a table of this width.
     pub fn bytes(&self, width: Width) -> Vec<u8> {
         let mut e = Vec::with_capacity(width.entry_len());

@@ -30,6 +30,11 @@ pub(crate) trait Disk: Debug + Send + Sync {
         OpenOptions::new().read(true).write(true).open(path)
     }
 
+    /// A file that is there, for reading alone.
+    fn open_to_read(&self, path: &Path) -> io::Result<File> {
+        File::open(path)
+    }
+
     /// What is at a path, if anything; a link is a link, wherever it leads.
     fn look(&self, path: &Path) -> io::Result<Option<Metadata>> {
         match fs::symlink_metadata(path) {

@@ -93,6 +93,8 @@ pub struct Driver {
     pub(crate) table_len: usize,
     /// behind a resync, the memory reads before the one that is not trusted yet; else the greatest number
     pub(crate) doubt: u64,
+    /// the sink knows the table, which is not asked for again then. It is not saved: another process has another sink
+    told: bool,
     /// reads, writes and flushes of the channel that succeeded
     moves: u64,
 }
@@ -122,6 +124,7 @@ impl Driver {
             table_read: Vec::new(),
             table_len: 0,
             doubt: u64::MAX,
+            told: false,
             moves: 0,
         }
     }
@@ -192,8 +195,8 @@ impl Driver {
         end.or_else(|why| self.hand_over_behind(&why, sink).and(Err(why)))
     }
 
-    /// Gives up: what was gathered is handed over, a region's close that is owed is made, and the session is closed; nothing more is sent. Gives the
-    /// refusal: 23, or 4 where it had ended.
+    /// Gives up: a table that came whole and was not told yet is, what was gathered is handed over, a region's close that is owed is made, and the session
+    /// is closed; nothing more is sent. Gives the refusal: 23, or 4 where it had ended.
     pub fn close<S: Sink + ?Sized>(&mut self, sink: &mut S) -> Result<Refusal, Error> {
         self.reopen(sink)?;
         self.hand_over(sink)?;
@@ -228,12 +231,14 @@ impl Driver {
             self.settle(channel, sink)?;
         }
         self.drain(channel)?;
+        // an answer that came behind a resync and is not trusted yet: what would have shown that it was another was heard just now
+        let doubted = s.reads > self.doubt;
         match (phase, self.owed) {
             // it is still to be sent, and counted already
             (_, Owed::Send(..)) => (self.to, self.doubt) = (self.from, s.reads.saturating_sub(1)),
-            (Phase::Table, _) => self.table_again(),
-            (Phase::Region, _) => self.chunk_again(if s.outstanding > 0 { self.asked } else { s.done }),
-            _ => self.doubt = s.reads,
+            (Phase::Region, _) => self.chunk_again(if s.outstanding > 0 || doubted { self.asked } else { s.done }),
+            (Phase::Between, _) if !doubted => self.doubt = s.reads,
+            _ => self.table_again(),
         }
         self.reopen(sink)
     }
@@ -261,15 +266,18 @@ impl Driver {
             // it still comes
             _ => return Ok(()),
         };
-        if self.drain(channel)? == 0 {
+        let heard = self.drain(channel);
+        if let Ok(0) = heard {
             self.doubt = u64::MAX;
             return Ok(());
         }
+        // of a channel that failed it is not known what it said before
         match in_region {
             true => self.chunk_again(self.asked),
             false => self.table_again(),
         }
-        Err(Error::Channel(io::Error::new(ErrorKind::InvalidData, "more came than was asked for: it is asked for again")))
+        let more = io::Error::new(ErrorKind::InvalidData, "more came than was asked for: it is asked for again");
+        heard.and(Err(Error::Channel(more)))
     }
 
     /// The table is to be asked for anew.
@@ -312,6 +320,7 @@ impl Driver {
         loop {
             if self.doubt != u64::MAX {
                 self.trust(channel)?;
+                self.tell(sink)?;
                 (hungry, waits) = (true, 0);
             }
             let wanted = match hungry && self.from == self.to {
@@ -410,7 +419,7 @@ impl Driver {
         }
     }
 
-    /// Does what is owed.
+    /// Does what is owed, behind what the sink must know first.
     fn settle<C, S>(&mut self, channel: &mut C, sink: &mut S) -> Result<(), Error>
     where
         C: Read + Write + ?Sized,
@@ -486,6 +495,22 @@ impl Driver {
         entry_at(&self.table, self.session.width(), place).expect("an opened region has an entry")
     }
 
+    /// Tells the sink the table, once it is whole and not in doubt.
+    #[cold]
+    fn tell<S: Sink + ?Sized>(&mut self, sink: &mut S) -> Result<(), Error> {
+        let whole = match self.session.phase() {
+            Phase::Between => self.session.raw().reads <= self.doubt,
+            Phase::Region => true,
+            _ => false,
+        };
+        if whole && !self.told {
+            let (table, width) = (&self.table[..self.table_len], self.session.width());
+            again(|| sink.table(table, width)).map_err(Error::Sink)?;
+            self.told = true;
+        }
+        Ok(())
+    }
+
     fn open<S: Sink + ?Sized>(&mut self, sink: &mut S, place: usize) -> Result<(), Error> {
         let entry = self.entry(place);
         self.place = place;
@@ -494,9 +519,10 @@ impl Driver {
         Ok(())
     }
 
-    /// A region of an earlier process goes on.
+    /// What the sink must know first: the table, and a region of an earlier process that goes on.
     #[cold]
     fn reopen<S: Sink + ?Sized>(&mut self, sink: &mut S) -> Result<(), Error> {
+        self.tell(sink)?;
         if self.region != Region::Before {
             return Ok(());
         }

@@ -47,7 +47,7 @@ impl fmt::Display for Error {
             Error::TimedOut(e) => write!(f, "the channel timed out: {e}"),
             Error::NoBytes => write!(f, "the channel gave no bytes"),
             Error::Channel(e) => write!(f, "the channel failed: {e}"),
-            Error::Sink(e) => write!(f, "a region could not be kept: {e}"),
+            Error::Sink(e) => write!(f, "what was fetched could not be kept: {e}"),
         }
     }
 }

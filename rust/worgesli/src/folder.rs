@@ -1,10 +1,11 @@
-//! The sink that keeps regions as files in a folder, with a manifest beside them.
+//! The sink that keeps regions as files in a folder, with a manifest and a region sheet beside them.
 //!
 //! A region's file has `.part` behind its name until all of it is synced. Whoever made `NAME.part` owns `NAME`: it is made as a new file,
 //! and given up again where `NAME` is there already. So a region never gets the name of a file that is there, with several of these sinks
 //! on one folder too.
 mod close;
 mod reopen;
+mod sheet;
 #[cfg(test)]
 mod tests;
 
@@ -12,7 +13,7 @@ use crate::disk::{make_folders, write_all, Disk, System};
 use crate::escape::{escape, PART};
 use crate::manifest::{self, table_name, Kept, State};
 use crate::sha256::Sha256;
-use crate::{Entry, Sink, Unkept};
+use crate::{region_sheet, Entry, Sink, Unkept, Width};
 use close::Stage;
 use std::collections::HashSet;
 use std::fmt;
@@ -21,11 +22,12 @@ use std::io::{self, ErrorKind};
 use std::path::{Path, PathBuf};
 use std::sync::Arc;
 
-/// Writes each region to a file of its own in a folder, for the owner alone. No file that is there is ever opened or overwritten.
+/// Writes each region to a file of its own in a folder, for the owner alone. No file that is there is ever written or written over, but its own.
 ///
 /// A file's name is the region's filename, [escaped](crate::escape); `~2`, `~3`, … is added where it is taken. It ends in `.part` until
 /// the region is whole: all bytes synced, the final name synced too. The [manifest](Folder::manifest_path) says how each region stands;
-/// it is replaced as a whole, so that it is never torn, and says `whole` last of all.
+/// it is replaced as a whole, so that it is never torn, and says `whole` last of all. The [sheet](Folder::sheet_path) lists the regions of the device's
+/// table, fetched or not, for people.
 ///
 /// A sync that fails loses the region ([`Unkept::Lost`]): the system may have dropped its bytes, and a second sync would not tell. Its
 /// file stays as it is, and the region comes again into another.
@@ -35,8 +37,11 @@ pub struct Folder {
     /// held from the beginning, so that an error of writing the folder back is told to us
     held: File,
     manifest: PathBuf,
+    /// the region sheet, once it is on the disk
+    sheet: Option<PathBuf>,
     limit: u64,
     digests: bool,
+    sheets: bool,
     regions: Vec<Kept>,
     current: Option<Current>,
     /// the manifest on the disk is not what it should be
@@ -76,12 +81,24 @@ impl Folder {
 
     fn with(disk: Arc<dyn Disk>, path: &Path, manifest: PathBuf, regions: Vec<Kept>) -> io::Result<Folder> {
         let held = disk.open_folder(path)?;
-        let path = path.into();
-        Ok(Folder { disk, path, held, manifest, limit: u64::MAX, digests: true, regions, current: None, unsaved: false })
+        Ok(Folder {
+            disk,
+            path: path.into(),
+            held,
+            manifest,
+            sheet: None,
+            limit: u64::MAX,
+            digests: true,
+            sheets: true,
+            regions,
+            current: None,
+            unsaved: false,
+        })
     }
 
     /// A bound on what a device's table can make this write: a region is refused ([`ErrorKind::QuotaExceeded`]) that would bring the sum
-    /// of the lengths above it. Of a region that was lost the bytes count that were written.
+    /// of the lengths above it. Of a region that was lost the bytes count that were written. Manifest and region sheet are not counted; a run's sheet has at
+    /// most 71,820 bytes.
     pub fn limit(mut self, bytes: u64) -> Folder {
         self.set_limit(bytes);
         self
@@ -98,6 +115,12 @@ impl Folder {
         self
     }
 
+    /// Whether the region sheet is written. It is unless this says no.
+    pub fn sheet(mut self, wanted: bool) -> Folder {
+        self.sheets = wanted;
+        self
+    }
+
     /// The folder.
     pub fn path(&self) -> &Path {
         &self.path
@@ -106,6 +129,13 @@ impl Folder {
     /// The manifest: a file of its own for each [`new`](Folder::new). No region can have its name.
     pub fn manifest_path(&self) -> &Path {
         &self.manifest
+    }
+
+    /// The [region sheet](region_sheet) of the table that was told last, once it is on the disk: `regions~1.txt` beside `manifest~1.tsv`, written whole or
+    /// not at all, and `regions~1~2.txt`, … where that name is taken. A file of just this text, as an earlier process left it, is replaced. No region can have
+    /// its name.
+    pub fn sheet_path(&self) -> Option<&Path> {
+        self.sheet.as_deref()
     }
 
     /// The regions in the order in which they were opened, those that were lost too.
@@ -150,13 +180,13 @@ impl Folder {
         Err(ErrorKind::AlreadyExists.into())
     }
 
-    /// Takes a name for the manifest, and gives the file that holds it until there is a manifest. The names have a `~` with more than a
-    /// number behind it, which no region's has.
+    /// Takes a name for the manifest, which is the sheet's too, and gives the file that holds it until there is a manifest. The names have a `~` with more
+    /// than a number behind it, which no region's has.
     fn claim_manifest(&mut self) -> io::Result<PathBuf> {
         for n in 1u64.. {
             let name = format!("manifest~{n}.tsv");
             let claim = format!("{name}.claim");
-            if self.claimed(&claim, &[&name, &format!("{name}.new")])?.is_some() {
+            if self.claimed(&claim, &[&name, &format!("{name}.new"), &format!("regions~{n}.txt")])?.is_some() {
                 self.manifest = self.at(&name);
                 return Ok(self.at(&claim));
             }
@@ -181,18 +211,20 @@ impl Folder {
         free.and(removed).map(|()| None)
     }
 
-    /// Replaces the manifest: a new file, synced, gets its name, and the folder is synced. What fails on the way is made anew from the
-    /// beginning the next time.
+    /// Replaces the manifest.
     fn save(&mut self) -> io::Result<()> {
         self.unsaved = true;
         self.snapshot();
-        self.write_manifest().map_err(saying("the manifest could not be written"))?;
+        let text = manifest::text(&self.regions);
+        self.write_new(&text, || Ok(self.manifest.clone())).map_err(saying("the manifest could not be written"))?;
         self.unsaved = false;
         Ok(())
     }
 
-    fn write_manifest(&self) -> io::Result<()> {
-        let new = self.new_manifest();
+    /// A new file, synced, gets its name, and the folder is synced. What fails on the way is made anew from the beginning the next time. The name is asked
+    /// for last.
+    fn write_new(&self, text: &str, name: impl FnOnce() -> io::Result<PathBuf>) -> io::Result<PathBuf> {
+        let new = self.new_file();
         let file = match self.disk.create(&new) {
             // left by a process that died
             Err(e) if e.kind() == ErrorKind::AlreadyExists => {
@@ -201,17 +233,18 @@ impl Folder {
             }
             file => file?,
         };
-        let text = manifest::text(&self.regions);
-        let written = write_all(&*self.disk, &file, text.as_bytes())
+        let named = write_all(&*self.disk, &file, text.as_bytes())
             .and_then(|()| self.disk.sync(&file))
-            .and_then(|()| self.disk.rename(&new, &self.manifest));
-        if written.is_err() {
+            .and_then(|()| name())
+            .and_then(|name| self.disk.rename(&new, &name).map(|()| name));
+        if named.is_err() {
             let _ = self.disk.remove(&new);
         }
-        written.and_then(|()| self.disk.sync(&self.held))
+        named.and_then(|name| self.disk.sync(&self.held).map(|()| name))
     }
 
-    fn new_manifest(&self) -> PathBuf {
+    /// What is written before it has its name, one file at a time.
+    fn new_file(&self) -> PathBuf {
         let mut name = self.manifest.clone().into_os_string();
         name.push(".new");
         name.into()
@@ -267,6 +300,14 @@ fn saying<'a>(what: &'a str) -> impl Fn(io::Error) -> io::Error + 'a {
 }
 
 impl Sink for Folder {
+    /// A table without an entry has an empty sheet: where there is none, no table came.
+    fn table(&mut self, table: &[u8], width: Width) -> io::Result<()> {
+        match self.sheets {
+            true => self.keep_sheet(&region_sheet(table, width)),
+            false => Ok(()),
+        }
+    }
+
     /// Made anew after an error of the manifest, it goes on with the file that it made.
     fn open(&mut self, place: usize, entry: &Entry) -> io::Result<()> {
         let begun = |c: &Current| c.written == 0 && c.stage == Stage::Taking && self.regions[c.line].is_of(place, entry);
@@ -332,6 +373,7 @@ impl fmt::Debug for Folder {
         f.debug_struct("Folder")
             .field("path", &self.path)
             .field("manifest", &self.manifest)
+            .field("sheet", &self.sheet)
             .field("limit", &self.limit)
             .field("digests", &self.digests)
             .field("regions", &self.regions)

@@ -1,4 +1,4 @@
-//! The sheet beside the regions: a line for each of them.
+//! The manifest beside the regions: a line for each of them.
 //!
 //! Columns with tabs between them, in printable ASCII: place, name in the table, file, base, length, bytes written, state, SHA-256 of
 //! these bytes, and why it was lost. The first line has the version and names the columns.

@@ -20,6 +20,9 @@ static LINKED: extern "C" fn() -> u32 = worgesli_abi_2;
 /// No command.
 pub const NO_COMMAND: u32 = 0xffff_ffff;
 
+/// The bytes of a line of a region sheet.
+pub const SHEET_LINE_LEN: usize = 57;
+
 /// A session as numbers. Those that its phase does not use are 0.
 #[repr(C)]
 #[derive(Clone, Copy, Debug, PartialEq, Eq)]
@@ -79,6 +82,14 @@ pub struct Entry {
     pub there: u32,
 }
 
+/// How many bytes of a page were written, or a refusal.
+#[repr(C)]
+#[derive(Clone, Copy, Debug, PartialEq, Eq)]
+pub struct Sheet {
+    pub written: usize,
+    pub refused: u32,
+}
+
 /// A part of an image set's bytes, or a refusal.
 #[repr(C)]
 #[derive(Clone, Copy, Debug, PartialEq, Eq)]
@@ -120,6 +131,7 @@ const _: () = {
     assert!(size_of::<Stepped>() == 168);
     assert!(size_of::<Placed>() == 40);
     assert!(size_of::<Entry>() == 72);
+    assert!(size_of::<Sheet>() == 16);
     assert!(size_of::<Range>() == 24);
     assert!(size_of::<Packet>() == 64);
 };
@@ -178,6 +190,7 @@ unsafe extern "C" {
         names_len: usize,
         from: usize,
     ) -> usize;
+    pub fn worgesli_region_sheet(table: *const u8, table_len: usize, width: u64, page: *mut u8, page_len: usize) -> Sheet;
     pub fn worgesli_utf8(bytes: *const u8, bytes_len: usize) -> bool;
     pub fn worgesli_parse_packet(bytes: *const u8, bytes_len: usize) -> Packet;
     pub fn worgesli_reset(out: *mut u8, out_len: usize) -> u32;
@@ -267,6 +280,12 @@ pub fn next_selected(table: &[u8], width: u64, entries: usize, names: &[u8], fro
     let (table, table_len) = (table.as_ptr(), table.len());
     // Safe: two live slices, which are only read.
     unsafe { worgesli_next_selected(table, table_len, width, entries, names.as_ptr(), names.len(), from) }
+}
+
+/// The region sheet of a table of this width: 57 bytes of the page for each entry, or 25 and nothing where it has fewer.
+pub fn region_sheet(table: &[u8], width: u64, page: &mut [u8]) -> Sheet {
+    // Safe: a live slice, which is only read, and one that is lent to us alone.
+    unsafe { worgesli_region_sheet(table.as_ptr(), table.len(), width, page.as_mut_ptr(), page.len()) }
 }
 
 /// Whether bytes are UTF-8.

@@ -1,10 +1,16 @@
 //! Where the bytes of regions go.
-use crate::Entry;
+use crate::{Entry, Width};
 use std::fmt;
 use std::io::{self, ErrorKind};
 
-/// Takes regions, one at a time: an open, its bytes in order, a close. What failed, or panicked, is asked anew when the run goes on.
+/// Takes the table, then regions, one at a time: an open, its bytes in order, a close. What failed, or panicked, is asked anew when the run goes on.
 pub trait Sink {
+    /// The memory table came whole: its bytes, and how wide the numbers in it are. Told before the first region is opened or goes on and, where none is
+    /// chosen, before the end; where no table came, or not all of one, it is not. It may be told more than once: after an error or a panic, by another
+    /// process that goes on with the run, or of another table, where a run that is older than the table asked for it again.
+    fn table(&mut self, _table: &[u8], _width: Width) -> io::Result<()> {
+        Ok(())
+    }
     /// A region begins: its place in the table, from 0, and its entry. It may be one that was [lost](Unkept::Lost) before.
     fn open(&mut self, place: usize, entry: &Entry) -> io::Result<()>;
     /// Bytes of the open region. Gives how many were taken, as `Write::write` does: the rest comes again.
@@ -54,6 +60,9 @@ impl From<io::Error> for Unkept {
 }
 
 impl<S: Sink + ?Sized> Sink for &mut S {
+    fn table(&mut self, table: &[u8], width: Width) -> io::Result<()> {
+        (**self).table(table, width)
+    }
     fn open(&mut self, place: usize, entry: &Entry) -> io::Result<()> {
         (**self).open(place, entry)
     }

@@ -1,4 +1,4 @@
-//! The memory table: entries, and which of them are dumped.
+//! The memory table: entries, which of them are dumped, and the sheet of all of them.
 use crate::{raw, NameList, Width};
 
 /// An entry of the memory table, of either width: a region.
@@ -40,6 +40,26 @@ pub fn entry_at(table: &[u8], width: Width, i: usize) -> Option<Entry> {
 pub fn next_selected(table: &[u8], width: Width, entries: usize, names: &NameList, from: usize) -> Option<usize> {
     let i = raw::next_selected(table, width as u64, entries, names.bytes(), from);
     (i < entries).then_some(i)
+}
+
+/// The region sheet of a table's bytes, for people: a line of 57 bytes for each entry, dumped or not.
+///
+/// A line has the filename in 20 columns, base and length in 16 hexadecimal digits each, and `*` where the device prefers the region. Each byte of a
+/// filename that is not printable ASCII is a `?`: a device's bytes do nothing to a terminal or a printer. A table without an entry gives no line.
+///
+/// ```
+/// use worgesli::{region_sheet, Width};
+/// let mut table = vec![];
+/// table.extend([1, 0x1468_0000, 0x4_0000].map(u32::to_le_bytes).concat()); // preferred, base, length
+/// table.extend(b"IMEM of the chip\0\0\0\0");
+/// table.extend(b"OCIMEM.BIN\0\0\0\0\0\0\0\0\0\0");
+/// assert_eq!(region_sheet(&table, Width::Bits32), "OCIMEM.BIN           0000000014680000 0000000000040000 *\n");
+/// ```
+pub fn region_sheet(table: &[u8], width: Width) -> String {
+    let mut page = vec![0; raw::SHEET_LINE_LEN * (table.len() / width.entry_len())];
+    let sheet = raw::region_sheet(table, width as u64, &mut page);
+    page.truncate(sheet.written);
+    String::from_utf8(page).expect("a sheet is printable ASCII")
 }
 
 /// Whether bytes are UTF-8.

@@ -1,11 +1,12 @@
 //! examples/fetch.c, compiled as README.md says, fetches from the simulated device; and again under the sanitizers, with system
 //! calls that fail as they may (tests/c/faults.c). The header's bundles beside the crate's.
 use device::{
-    done_resp, execute_resp, hello, not_run, read_data, reset_resp, serve_until, Device, Memory, Pty, Region, Rng, Turn, Width,
+    done_resp, execute_resp, hello, not_run, padded, read_data, reset_resp, serve_until, Device, Memory, Pty, Region, Rng, Turn,
+    Width,
 };
 use std::collections::BTreeMap;
 use std::fs::{self, File};
-use std::io::Write;
+use std::io::{Read, Write};
 use std::os::fd::OwnedFd;
 use std::os::unix::fs::PermissionsExt;
 use std::os::unix::net::UnixStream;
@@ -271,6 +272,11 @@ fn memory(width: Width, seed: u64, regions: &[Region]) -> Memory {
     Memory::of(width, seed, width.half(), regions)
 }
 
+/// What it prints of a table.
+fn sheet(regions: &[Region]) -> String {
+    regions.iter().map(Region::line).collect()
+}
+
 fn content(memory: &Memory, region: &Region) -> Vec<u8> {
     memory.bytes(region.base, region.len as usize)
 }
@@ -309,14 +315,10 @@ fn fetches() {
             let device = device.unwrap();
             let chunks: u64 = regions.iter().map(|r| r.len.div_ceil(4096)).sum();
             assert_eq!((device.wrong(), device.reads()), (None, 1 + chunks));
-            assert!(said.out.ends_with(&format!(
-                "every selected region is whole: {}, with {} memory reads\n",
-                regions.len(),
-                1 + chunks
-            )));
-            for (name, region) in names.iter().zip(&regions) {
-                assert!(said.out.contains(&format!("{name}: {} bytes\n", region.len)));
-            }
+            // the sheet, a line for each region, and the end
+            let whole: String = names.iter().zip(&regions).map(|(name, r)| format!("{name}: {} bytes\n", r.len)).collect();
+            let end = format!("every selected region is whole: {}, with {} memory reads\n", regions.len(), 1 + chunks);
+            assert_eq!(said.out, sheet(&regions) + &whole + &end);
             let mode = |p: &Path| fs::metadata(p).unwrap().permissions().mode() & 0o777;
             assert_eq!(mode(&temporary.dump()), 0o700);
             assert!(names.iter().all(|n| mode(&temporary.dump().join(n)) == 0o600));
@@ -352,13 +354,67 @@ fn selected_by_name() {
                 (said.status, temporary.files().into_keys().collect::<Vec<_>>()),
                 (Some(0), files.iter().map(|f| f.to_string()).collect())
             );
+            // selected or not
+            assert!(said.out.starts_with(&sheet(&regions)), "{said:?}");
         }
         // none of this name: no success
         let temporary = Temporary::new();
         let call = Call { names: vec!["-".into(), "TAKE.BIN".into(), String::new()], ..Call::new(build) };
         let (said, _) = call.run(Device::dump(memory.clone()), 1, u64::MAX, &temporary.dump());
         said.failed("the device has no region that is asked for");
-        assert!(temporary.files().is_empty());
+        assert_eq!((said.out, temporary.files().len()), (sheet(&regions), 0));
+    }
+}
+
+/// Whatever a device writes into a filename, and whether it is fetched or not: a line of the sheet is 57 bytes that do nothing to a terminal.
+#[test]
+fn names_that_would_move_a_cursor() {
+    let names: [&[u8]; 9] = [
+        b"\x1b[2J\x1b[1;1H",
+        b"\x9b2J",
+        b"a\rb\x08c",
+        b"\n\n\n",
+        b"\x0e\x7f\xff",
+        b"\xe2\x80\xae",
+        &[0x1b; 20],
+        &[0xff; 20],
+        b"\t\0\x1b[2J",
+    ];
+    let mut regions: Vec<Region> =
+        names.iter().map(|n| Region { filename: padded(n), ..Region::new("", 7, 9) }.unpreferred()).collect();
+    regions.push(Region::new("A.BIN", 1, 2));
+    let shown = ["?[2J?[1;1H", "?2J", "a?b?c", "???", "???", "???", "????????????????????", "????????????????????", "?"];
+    let due: String = shown.iter().map(|name| format!("{name:<20} 0000000000000007 0000000000000009  \n")).collect();
+    for (build, width) in boards() {
+        let temporary = Temporary::new();
+        let memory = memory(width, 1, &regions);
+        // Said::of looks at every byte
+        let (said, _) = Call::new(build).run(Device::dump(memory), 1, u64::MAX, &temporary.dump());
+        let end = "A.BIN                0000000000000001 0000000000000002 *\nA.BIN: 2 bytes\n\
+                   every selected region is whole: 1, with 2 memory reads\n";
+        assert_eq!((said.status, said.out), (Some(0), format!("{due}{end}")));
+    }
+}
+
+/// The sheet is there when the table is, and is not waited for until the end.
+#[test]
+fn sheet_before_the_regions() {
+    for (build, width) in boards() {
+        let regions = [Region::new("A.BIN", 1, 2), Region::new("B.BIN", 3, 4).unpreferred()];
+        let temporary = Temporary::new();
+        let (near, mut far) = UnixStream::pair().unwrap();
+        let mut child = Call::new(build).spawn("0", OwnedFd::from(near).into(), &temporary.dump());
+        let memory = memory(width, 1, &regions);
+        // it is answered, and then it waits for a region's bytes
+        let mut packet = vec![0; 48 + width.packet_len()];
+        far.write_all(&[hello(2), width.mem_debug(memory.table_at(), memory.table_len())].concat()).unwrap();
+        far.read_exact(&mut packet).unwrap();
+        far.write_all(memory.table()).unwrap();
+        let mut said = vec![0; sheet(&regions).len()];
+        child.stdout.as_mut().unwrap().read_exact(&mut said).unwrap();
+        assert_eq!((String::from_utf8(said).unwrap(), child.try_wait().unwrap()), (sheet(&regions), None));
+        drop(far);
+        assert_eq!(Said::of(child).out, "");
     }
 }
 
@@ -433,6 +489,8 @@ fn the_device_dies() {
             let files = temporary.files();
             let whole = held(&files, &memory, &regions, &names);
             assert!(said.error.contains(&format!("whole regions: {whole}\n")), "{said:?}");
+            // no sheet of a part of a table
+            assert!(if left < before { said.out.is_empty() } else { said.out.starts_with(&sheet(&regions)) }, "{said:?}");
             let parts = files.keys().find(|f| f.ends_with(".part"));
             // every byte that came is kept
             let kept: usize = files.values().map(Vec::len).sum();
@@ -533,6 +591,7 @@ fn other_devices() {
         let table = |regions: &[Region]| Device::dump(memory(width, 1, regions));
         let above =
             if width == Width::Bits32 { "a region of a 32-bit device ends above 2^32" } else { "a region ends above 2^64" };
+        let unsound = [full, Region::new([0xff], 0, 1), Region::new("X", width.end_less(1), 2)];
         let cases = [
             (say(vec![done_resp(1)]), "it is done"),
             (say(vec![reset_resp()]), "it resets"),
@@ -543,14 +602,17 @@ fn other_devices() {
             (say(vec![width.mem_read(0, 0)]), "the device sent a packet that only a host sends"),
             (say(vec![width.mem_debug(0, 65_537)]), "the device announced a memory table longer than 65,536 bytes"),
             (table(&[]), "the device has no region that is asked for"),
-            (table(&[full]), "a region's filename has no zero byte"),
-            (table(&[Region::new([0xff], 0, 1)]), "a region's filename is not UTF-8"),
-            (table(&[Region::new("X", width.end_less(1), 2)]), above),
+            (table(&unsound[..1]), "a region's filename has no zero byte"),
+            (table(&unsound[1..2]), "a region's filename is not UTF-8"),
+            (table(&unsound[2..]), above),
         ];
-        for (device, why) in cases {
+        let first = cases.len() - unsound.len();
+        for (i, (device, why)) in cases.into_iter().enumerate() {
             let temporary = Temporary::new();
             let (said, _) = Call::new(build).run(device, 1, u64::MAX, &temporary.dump());
             said.failed(why);
+            // where there is a table people see what it is refused for
+            assert_eq!(said.out, i.checked_sub(first).map_or(String::new(), |i| unsound[i].line()));
             // at most a part, of a region that was opened and then refused
             assert!(temporary.files().iter().all(|(name, bytes)| name == "X.part" && bytes.is_empty()));
         }

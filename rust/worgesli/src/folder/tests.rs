@@ -33,8 +33,11 @@ impl Drop for Temporary {
     }
 }
 
-/// A table's regions and their bytes.
+/// A table's regions and their bytes; behind them the table has others.
 struct World(Vec<(Entry, Vec<u8>)>);
+
+/// Enough that a sheet is written in more than one call.
+const OTHERS: usize = 9;
 
 fn entry(name: &[u8], base: u64, len: u64) -> Entry {
     let mut filename = [0; 20];
@@ -53,6 +56,35 @@ impl World {
         };
         World(names.map(region).into())
     }
+
+    fn entries(&self) -> Vec<Entry> {
+        let others = vec![Entry { save_pref: 0, ..entry(b"other", 7, 9) }; OTHERS];
+        self.0.iter().map(|r| r.0).chain(others).collect()
+    }
+
+    fn table(&self) -> Vec<u8> {
+        let bytes =
+            |e: &Entry| [&[e.save_pref, e.base, e.len].map(u64::to_le_bytes).concat()[..], &e.description, &e.filename].concat();
+        self.entries().iter().flat_map(bytes).collect()
+    }
+
+    /// The sheet, by a formatter of its own.
+    fn sheet(&self) -> String {
+        let line = |e: &Entry| {
+            let name = std::str::from_utf8(table_name(e)).unwrap();
+            format!("{name:<20} {:016X} {:016X} {}\n", e.base, e.len, if e.save_pref == 0 { ' ' } else { '*' })
+        };
+        self.entries().iter().map(line).collect()
+    }
+
+    /// Every file of a folder that is called a sheet is one, whole; gives how many there are.
+    fn true_sheets(&self, folder: &Path) -> usize {
+        let files = fs::read_dir(folder).unwrap().map(|f| f.unwrap().path());
+        let is_sheet = |path: &PathBuf| path.file_name().unwrap().to_str().unwrap().starts_with("regions~");
+        let sheets: Vec<PathBuf> = files.filter(is_sheet).collect();
+        assert!(sheets.iter().all(|s| fs::read_to_string(s).unwrap() == self.sheet()), "{sheets:?}");
+        sheets.len()
+    }
 }
 
 /// What a driver saves: the region that it is at, whether it is open, and how many bytes were taken.
@@ -70,13 +102,15 @@ struct Player<'a> {
     checkpoints: bool,
     /// calls that failed
     failed: usize,
+    /// whether the folder was told the table: by this process, by any
+    told: [bool; 2],
 }
 
 const MOST: usize = 60;
 
 impl<'a> Player<'a> {
     fn new(world: &'a World, checkpoints: bool) -> Player<'a> {
-        Player { world, saved: vec![Saved::default()], checkpoints, failed: 0 }
+        Player { world, saved: vec![Saved::default()], checkpoints, failed: 0, told: [false; 2] }
     }
 
     fn now(&self) -> Saved {
@@ -85,6 +119,13 @@ impl<'a> Player<'a> {
 
     /// One call. A failed one is made anew by the next.
     fn call(&mut self, folder: &mut Folder) {
+        if !self.told[0] {
+            match folder.table(&self.world.table(), Width::Bits64) {
+                Ok(()) => self.told = [true; 2],
+                Err(_) => self.failed += 1,
+            }
+            return;
+        }
         let Saved { place, open, taken } = self.now();
         let (entry, bytes) = &self.world.0[place];
         let next = if !open {
@@ -135,6 +176,7 @@ impl<'a> Player<'a> {
 
     /// A driver in another process, from what was saved `back` saves ago.
     fn resume(&mut self, folder: &mut Folder, back: usize) {
+        self.told[0] = false;
         let saved = self.saved[self.saved.len().saturating_sub(1 + back)];
         self.saved.push(saved);
         let Saved { place, open: true, taken } = saved else { return };
@@ -148,8 +190,9 @@ impl<'a> Player<'a> {
     }
 }
 
-/// What a manifest claims is so in its folder: each whole region is there, byte for byte. Gives the lines.
+/// What a manifest claims is so in its folder: each whole region is there, byte for byte; and what is called a sheet is one. Gives the lines.
 fn true_claims(manifest: &Path, world: &World) -> Vec<Kept> {
+    world.true_sheets(manifest.parent().unwrap());
     let regions = read_manifest(manifest).unwrap();
     for kept in &regions {
         let (entry, bytes) = &world.0[kept.place];
@@ -165,7 +208,7 @@ fn true_claims(manifest: &Path, world: &World) -> Vec<Kept> {
     regions
 }
 
-/// After a whole fetch each region is whole, and every name without `.part` is that of a whole region or of a manifest.
+/// After a whole fetch each region is whole, and every name without `.part` is that of a whole region, of a manifest or of a sheet.
 fn all_whole(folder: &Folder, world: &World) -> Vec<Kept> {
     all_whole_but(folder, world, |_| false)
 }
@@ -173,13 +216,14 @@ fn all_whole(folder: &Folder, world: &World) -> Vec<Kept> {
 fn all_whole_but(folder: &Folder, world: &World, but: impl Fn(&Path) -> bool) -> Vec<Kept> {
     let regions = true_claims(folder.manifest_path(), world);
     assert_eq!(regions, folder.regions());
+    assert_eq!(fs::read_to_string(folder.sheet_path().unwrap()).unwrap(), world.sheet());
     let last: BTreeMap<usize, &Kept> = regions.iter().map(|k| (k.place, k)).collect();
     assert!(last.len() == world.0.len() && last.values().all(|k| k.state == State::Whole), "{regions:?}");
     for name in fs::read_dir(folder.path()).unwrap() {
         let name = name.unwrap().file_name().into_string().unwrap();
         let whole = regions.iter().any(|k| k.file == name && k.state == State::Whole);
-        let known = name.ends_with(PART) || name.starts_with("manifest~") || whole || but(&folder.at(&name));
-        assert!(known, "{name}: {regions:?}");
+        let beside = name.starts_with("manifest~") || name.starts_with("regions~");
+        assert!(name.ends_with(PART) || beside || whole || but(&folder.at(&name)), "{name}: {regions:?}");
     }
     regions
 }
@@ -191,6 +235,8 @@ fn synced_too(disk: &Shaky, folder: &Folder, world: &World) {
     let manifest = t.0.join(folder.manifest_path().file_name().unwrap());
     let regions = true_claims(&manifest, world);
     assert_eq!(regions, folder.regions(), "the manifest is not on the disk");
+    let sheet = folder.sheet_path().map(|s| t.0.join(s.file_name().unwrap()));
+    assert!(sheet.is_none_or(|s| s.exists()), "the sheet is not on the disk");
 }
 
 fn opened(disk: &Arc<Shaky>, path: &Path) -> Option<Folder> {
@@ -272,6 +318,7 @@ fn go_on(disk: &Arc<Shaky>, path: &Path, player: &mut Player, back: usize) -> (F
         return (Folder::on(disk.clone(), path).unwrap(), 0);
     }
     true_claims(&manifest, player.world);
+    assert!(!player.told[1] || path.join("regions~1.txt").exists(), "a sheet that was kept is not there any more");
     let mut folder = (0..MOST).find_map(|_| Folder::resume_on(disk.clone(), &manifest).ok()).unwrap();
     player.resume(&mut folder, back);
     (folder, player.now().taken)
@@ -530,5 +577,89 @@ fn folders_are_made() {
             assert_eq!(fs::metadata(path).unwrap().permissions().mode() & 0o777, 0o700);
             assert!(disk.synced_folder(path.parent().unwrap()));
         }
+    }
+}
+
+fn tell(folder: &mut Folder, table: &[u8]) -> Result<(), ErrorKind> {
+    folder.table(table, Width::Bits64).map_err(|e| e.kind())
+}
+
+/// A sheet that could not be kept is not called one: `sheet_path` says where the table's is that was told last, or nothing.
+#[test]
+fn sheet_that_is_not_kept() {
+    let world = World::new();
+    let (table, other) = (world.table(), vec![0; 64]);
+    let t = Temporary::new();
+    let disk = Shaky::new(&t.0, None);
+    let mut folder = Folder::on(disk.clone(), &t.0).unwrap();
+    for kind in ["create", "write", "sync", "look", "rename"] {
+        disk.fail_next(kind, 28);
+        assert_eq!(tell(&mut folder, &table), Err(ErrorKind::StorageFull), "{kind}");
+        assert_eq!((folder.sheet_path(), world.true_sheets(&t.0)), (None, 0), "{kind}");
+    }
+    let said = {
+        disk.fail_next("write", 28);
+        folder.table(&table, Width::Bits64).unwrap_err().to_string()
+    };
+    assert!(said.starts_with("the region sheet could not be written: "), "{said}");
+    tell(&mut folder, &table).unwrap();
+    assert_eq!(folder.sheet_path(), Some(&*t.0.join("regions~1.txt")));
+    // told again it is not written again
+    let calls = disk.calls();
+    tell(&mut folder, &table).unwrap();
+    assert!(disk.calls() - calls < 6);
+    disk.fail_next("write", 28);
+    assert_eq!(tell(&mut folder, &other), Err(ErrorKind::StorageFull));
+    assert_eq!((folder.sheet_path(), world.true_sheets(&t.0)), (None, 1));
+    tell(&mut folder, &other).unwrap();
+    assert_eq!(folder.sheet_path(), Some(&*t.0.join("regions~1~2.txt")));
+    assert_eq!(fs::read_to_string(t.0.join("regions~1~2.txt")).unwrap(), format!("{:20} {:016X} {:016X}  \n", "", 0, 0));
+    synced_sheets(&disk, &folder, 2);
+}
+
+/// So many sheets are on the disk for sure, among them the one that the folder names.
+fn synced_sheets(disk: &Shaky, folder: &Folder, count: usize) {
+    let t = Temporary::new();
+    disk.image(&t.0, Survives::Synced, &mut Rng::new(0));
+    let files = fs::read_dir(&t.0).unwrap().map(|f| f.unwrap().file_name().into_string().unwrap());
+    let sheets: Vec<String> = files.filter(|f| f.starts_with("regions~")).collect();
+    assert_eq!(sheets.len(), count, "{sheets:?}");
+    assert!(sheets.iter().any(|s| folder.sheet_path() == Some(&*folder.at(s))));
+}
+
+/// The sheet of a process before: it stays where it is and gets on the disk, also where that process died of a failed sync of the folder. One that cannot be read
+/// is another's, and stops nothing.
+#[test]
+fn sheet_of_a_process_before() {
+    let world = World::new();
+    for (kind, error, due) in [
+        ("", 0, "regions~1.txt"),
+        ("read", 4, "regions~1.txt"),
+        ("read", 5, "regions~1~2.txt"),
+        ("open_to_read", 13, "regions~1~2.txt"),
+        ("look", 5, "regions~1.txt"),
+    ] {
+        let t = Temporary::new();
+        let disk = Shaky::new(&t.0, None);
+        let mut folder = Folder::on(disk.clone(), &t.0).unwrap();
+        // create, two writes, sync, look, rename, and the folder's sync
+        disk.live(Some(Fault { from: 6, times: 1, error: 5, effect: false }));
+        disk.die_after(7);
+        assert!(tell(&mut folder, &world.table()).is_err());
+        assert_eq!((disk.failed(), world.true_sheets(&t.0)), (vec!["sync"], 1));
+        drop(folder);
+        disk.live(None);
+        let mut folder = Folder::resume_on(disk.clone(), &t.0.join("manifest~1.tsv")).unwrap();
+        if !kind.is_empty() {
+            disk.fail_next(kind, error);
+        }
+        let told = tell(&mut folder, &world.table());
+        if let Err(kind) = told {
+            assert!(due == "regions~1.txt" && (kind == ErrorKind::Interrupted || error == 5), "{kind}");
+            tell(&mut folder, &world.table()).unwrap();
+        }
+        assert_eq!(folder.sheet_path(), Some(&*t.0.join(due)), "{kind}");
+        assert_eq!(world.true_sheets(&t.0), if due == "regions~1.txt" { 1 } else { 2 });
+        synced_sheets(&disk, &folder, 1);
     }
 }

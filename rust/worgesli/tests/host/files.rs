@@ -22,19 +22,19 @@ impl Temporary {
         Temporary(path)
     }
 
-    fn dump(&self) -> PathBuf {
+    pub fn dump(&self) -> PathBuf {
         self.0.join("dump")
     }
 
     /// What is in the dump, in order.
-    fn names(&self) -> Vec<String> {
+    pub fn names(&self) -> Vec<String> {
         let mut names: Vec<String> =
             fs::read_dir(self.dump()).unwrap().map(|e| e.unwrap().file_name().into_string().unwrap()).collect();
         names.sort();
         names
     }
 
-    fn read(&self, name: &str) -> Vec<u8> {
+    pub fn read(&self, name: &str) -> Vec<u8> {
         fs::read(self.dump().join(name)).unwrap_or_else(|e| panic!("{name}: {e}"))
     }
 }
@@ -45,13 +45,13 @@ impl Drop for Temporary {
     }
 }
 
-fn start(width: Width, regions: &[Region], faults: Faults) -> (Memory, Wire, Driver) {
+pub fn start(width: Width, regions: &[Region], faults: Faults) -> (Memory, Wire, Driver) {
     let memory = Memory::of(width, 8, width.half(), regions);
     let wire = Wire::new(Device::dump(memory.clone()), Division::Random, 8).with(faults);
     (memory, wire, Options::new(Backend::Usb, Mode::MemoryDebug).start().unwrap())
 }
 
-fn fetch(width: Width, regions: &[Region], sink: &mut Folder) -> (Memory, Result<Outcome, Error>) {
+pub fn fetch(width: Width, regions: &[Region], sink: &mut Folder) -> (Memory, Result<Outcome, Error>) {
     let (memory, mut wire, mut driver) = start(width, regions, Faults::default());
     (memory, driver.run(&mut wire, sink, |_| ()))
 }
@@ -102,11 +102,11 @@ fn a_file_for_each_region() {
             assert!(t.read(&kept.file) == memory.bytes(r.base, r.len as usize), "{}", kept.file);
             assert_eq!((kept.base, kept.len, kept.bytes, &kept.state), (r.base, r.len, r.len, &State::Whole));
         }
-        assert_eq!(t.names().len(), 6 + 1);
+        assert_eq!(t.names().len(), 6 + 2);
     }
 }
 
-const HOSTILE: [&[u8]; 24] = [
+pub const HOSTILE: [&[u8]; 26] = [
     b"",
     b".",
     b"..",
@@ -131,6 +131,8 @@ const HOSTILE: [&[u8]; 24] = [
     &[b'/'; 19],
     b"manifest~1.tsv",
     b"manifest~1.tsv.new",
+    b"regions~1.txt",
+    b"regions.txt",
 ];
 
 /// No name stops a fetch: each is escaped, in the folder and in the manifest, and can be had back.
@@ -142,14 +144,14 @@ fn hostile_filenames() {
         let t = Temporary::new();
         let mut sink = Folder::new(t.dump()).unwrap();
         let (memory, end) = fetch(width, &regions, &mut sink);
-        assert_eq!(end.unwrap(), Outcome::Dumped { reads: 26 });
+        assert_eq!(end.unwrap(), Outcome::Dumped { reads: 28 });
         for ((kept, r), name) in sink.regions().iter().zip(&regions).zip(HOSTILE) {
             assert_eq!((kept.name.as_slice(), &kept.file), (name, &escape(name)));
             assert_eq!(unescape(&kept.file).unwrap(), name);
             assert!(t.read(&kept.file) == memory.bytes(r.base, r.len as usize));
         }
         assert_eq!(sink.regions().len(), regions.len());
-        assert_eq!(t.names().len(), regions.len() + 1);
+        assert_eq!(t.names().len(), regions.len() + 2);
         assert!(t.names().iter().all(|n| n.bytes().all(|b| matches!(b, b' '..=b'~')) && !n.starts_with(['-', '.', ' '])));
         let text = fs::read_to_string(sink.manifest_path()).unwrap();
         assert!(text.bytes().all(|b| matches!(b, b' '..=b'~' | b'\t' | b'\n')));
@@ -189,7 +191,7 @@ fn parts_have_other_names() {
             start(width, &regions, Faults { ends_after: Some(opening + 5000 + 6000), ..Faults::default() });
         let mut sink = Folder::new(t.dump()).unwrap();
         assert!(matches!(driver.run(&mut wire, &mut sink, |_| ()), Err(Error::NoBytes)));
-        assert_eq!(t.names(), ["A.BIN", "B.BIN.part", "manifest~1.tsv"]);
+        assert_eq!(t.names(), ["A.BIN", "B.BIN.part", "manifest~1.tsv", "regions~1.txt"]);
         let manifest = sink.manifest_path().to_owned();
         sink.finish().unwrap();
         let told = read_manifest(manifest).unwrap();
@@ -203,7 +205,7 @@ fn parts_have_other_names() {
         assert_eq!(fetch(width, &regions, &mut sink).1.unwrap(), Outcome::Dumped { reads: 7 });
         assert_eq!(files(&sink), ["A.BIN~2", "B.BIN~2", "C.BIN"]);
         let all = ["A.BIN", "A.BIN~2", "B.BIN.part", "B.BIN~2", "C.BIN", "manifest~1.tsv", "manifest~2.tsv"];
-        assert_eq!(t.names(), all);
+        assert_eq!(t.names(), [&all[..], &["regions~1.txt", "regions~2.txt"]].concat());
         assert_eq!(fs::read(t.dump().join("manifest~1.tsv")).unwrap(), before);
         assert!(t.read("B.BIN~2") == memory.bytes(1 << 20, 9000));
 
@@ -220,7 +222,8 @@ fn parts_have_other_names() {
 #[test]
 fn no_file_is_overwritten() {
     for width in Width::BOTH {
-        for name in ["DDR.BIN", "DDR.BIN.part", "manifest~1.tsv", "manifest~1.tsv.new", "manifest~1.tsv.claim"] {
+        let manifest = ["manifest~1.tsv", "manifest~1.tsv.new", "manifest~1.tsv.claim"];
+        for name in ["DDR.BIN", "DDR.BIN.part", "regions~1.txt"].into_iter().chain(manifest) {
             for way in 0..4 {
                 let t = Temporary::new();
                 let (path, other) = (t.dump().join(name), t.0.join("other"));
@@ -291,7 +294,7 @@ fn for_the_owner_alone() {
         for path in [t.dump(), t.dump().join("a"), deep.clone()] {
             assert_eq!(mode(&path), 0o700, "{}", path.display());
         }
-        for name in ["A", "B.part", "manifest~1.tsv"] {
+        for name in ["A", "B.part", "manifest~1.tsv", "regions~1.txt"] {
             assert_eq!(mode(&deep.join(name)), 0o600, "{name}");
         }
         fs::set_permissions(t.dump(), PermissionsExt::from_mode(0o755)).unwrap();
@@ -318,10 +321,10 @@ fn limit() {
         let (kind, why) = refused(&mut sink);
         assert_eq!(kind, ErrorKind::QuotaExceeded);
         assert!(why.contains("10001") && why.contains("10000"), "{why}");
-        assert_eq!(t.names(), ["A", "manifest~1.tsv"]);
+        assert_eq!(t.names(), ["A", "manifest~1.tsv", "regions~1.txt"]);
         sink.set_limit(10_001);
         assert_eq!(refused(&mut sink).0, ErrorKind::QuotaExceeded);
-        assert_eq!(t.names(), ["A", "B", "manifest~1.tsv"]);
+        assert_eq!(t.names(), ["A", "B", "manifest~1.tsv", "regions~1.txt"]);
         assert!(t.read("B") == memory.bytes(0, 5001));
         // lengths that are no number together
         sink.open(3, &entry(b"D", 0, u64::MAX)).unwrap_err();

@@ -5,7 +5,7 @@ use device::{Device, Division, Faults, Region, Rng, Width, Wire};
 use std::fs;
 use worgesli::{Backend, Driver, Error, Folder, NameList, Options, Outcome, Phase, Sink, State};
 
-fn two_regions(width: Width, backend: Backend) -> World {
+pub fn two_regions(width: Width, backend: Backend) -> World {
     World::new(width, backend, &[Region::new("A.BIN", 7, 9000), Region::new("B.BIN", 1 << 20, 4608), Region::new("C.BIN", 5, 0)])
 }
 
@@ -15,7 +15,7 @@ fn all_of_two_regions() -> impl Iterator<Item = World> {
 }
 
 /// Where the table's and the regions' bytes stand in all that the device says.
-fn bytes_of(w: &World) -> std::ops::Range<u64> {
+pub fn bytes_of(w: &World) -> std::ops::Range<u64> {
     w.opening()..w.opening() + w.memory.table_len() + 9000 + 4608
 }
 
@@ -192,7 +192,7 @@ fn part_of_a_table() {
 }
 
 /// Silent at one byte for some reads, and then it goes on.
-struct Pauses(Wire, u64, u32);
+pub struct Pauses(pub Wire, pub u64, pub u32);
 
 impl std::io::Read for Pauses {
     fn read(&mut self, to: &mut [u8]) -> std::io::Result<usize> {

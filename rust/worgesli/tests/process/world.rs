@@ -76,8 +76,9 @@ impl Far {
         assert_eq!((device.wrong(), device.queued()), (None, 0));
     }
 
-    /// Each region is whole under its name, and its line in the manifest says so.
+    /// Each region is whole under its name, and its line in the manifest says so; the sheet is there.
     pub fn assert_whole(&self, folder: &Path) {
+        assert!(true_sheets(folder) > 0);
         let lines = whole_lines(folder);
         for (place, r) in regions().iter().enumerate() {
             let (_, file) = lines.iter().find(|(p, _)| *p == place).unwrap_or_else(|| panic!("no whole region {place}"));
@@ -87,6 +88,7 @@ impl Far {
 
     /// What the manifest calls whole is whole, and what has a final name is whole.
     pub fn assert_honest(&self, folder: &Path) {
+        true_sheets(folder);
         let bytes = |place: usize| self.memory.bytes(regions()[place].base, regions()[place].len as usize);
         for (place, file) in whole_lines(folder) {
             assert!(fs::read(file).unwrap() == bytes(place), "region {place}");
@@ -94,11 +96,21 @@ impl Far {
         let Ok(found) = fs::read_dir(folder.join("dump")) else { return };
         for path in found.map(|e| e.unwrap().path()) {
             let name = path.file_name().unwrap().to_str().unwrap();
-            let ours = name.starts_with("manifest~") || name.ends_with(".part");
+            let ours = name.starts_with("manifest~") || name.starts_with("regions~") || name.ends_with(".part");
             let whole = || (0..regions().len()).any(|place| fs::read(&path).unwrap() == bytes(place));
             assert!(ours || whole(), "{name}");
         }
     }
+}
+
+/// What is called a region sheet is one, whole; gives how many there are.
+fn true_sheets(folder: &Path) -> usize {
+    let Ok(found) = fs::read_dir(folder.join("dump")) else { return 0 };
+    let paths = found.map(|e| e.unwrap().path());
+    let sheets: Vec<_> = paths.filter(|p| p.file_name().unwrap().to_str().unwrap().starts_with("regions~")).collect();
+    let due: String = regions().iter().map(Region::line).collect();
+    assert!(sheets.iter().all(|s| fs::read_to_string(s).unwrap() == due), "{sheets:?}");
+    sheets.len()
 }
 
 /// The places and files of the regions that a manifest calls whole. A folder that failed on its way may have left one beside that of the next.

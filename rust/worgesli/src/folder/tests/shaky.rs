@@ -250,6 +250,9 @@ impl Disk for Shaky {
     fn open(&self, path: &Path) -> io::Result<File> {
         self.call("open", |_| System.open(path))
     }
+    fn open_to_read(&self, path: &Path) -> io::Result<File> {
+        self.call("open_to_read", |_| System.open_to_read(path))
+    }
     fn look(&self, path: &Path) -> io::Result<Option<Metadata>> {
         self.call("look", |_| System.look(path))
     }
