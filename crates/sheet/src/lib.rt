@@ -13,7 +13,6 @@ ghost use Rattle.field.specs.Field.{fieldSize};
 ghost use Rattle.entry.specs.Entry.{entriesIn};
 ghost use Rattle.filename.specs.Filename.{before};
 ghost use Rattle.sheet.specs.Sheet.{
-  blank,
   printed,
   columns,
   digit,
