@@ -189,7 +189,7 @@ typedef struct worgesli_entry {
 
 /* What was written of a region sheet. */
 typedef struct worgesli_sheet {
-    size_t written;   /* bytes of the page, from its first on: WORGESLI_SHEET_LINE_LEN for each entry */
+    size_t written;   /* bytes of the page, from its first on: WORGESLI_SHEET_LINE_LEN for each entry; 0 where it is refused */
     uint32_t refused; /* 0; 25: the page is shorter than that, and is as it was */
 } worgesli_sheet;
 
@@ -281,7 +281,8 @@ size_t worgesli_next_selected(const uint8_t *table, size_t table_len, uint64_t w
 /* The region sheet of a table of this width, for people: a line for each entry, whether it is selected or not. A line has the filename in 20 columns, the base
  * and the length in 16 capital hexadecimal digits each, '*' where the device prefers the region, else a blank, and a blank between any two; then a line feed.
  * The filename stops at its first zero byte, and each byte outside 0x20 to 0x7E is a '?', so that a device's bytes do nothing to a terminal. A part of an entry
- * behind the last whole one is ignored; a table of a number that is no width has no entry. The page may be longer than the sheet: its rest is as it was. */
+ * behind the last whole one is ignored; a number that is no width is answered as a table without an entry: 0 written, 0 refused. The page may be longer than the
+ * sheet: its rest is as it was, and no zero byte is put behind it. Archives of number 2 from before this function do not have it: who uses dlopen looks. */
 worgesli_sheet worgesli_region_sheet(const uint8_t *table, size_t table_len, uint64_t width, uint8_t *page, size_t page_len);
 
 /* Whether the bytes are UTF-8. */

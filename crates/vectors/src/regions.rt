@@ -129,9 +129,9 @@ fn sheet_into(table: &[u8], width: Width, page: &mut [u8]) {
 pub(crate) fn sheet(line: &[u8]) {
     let mut table = [0u8; 1024];
     let n = text::bytes(line, 2, &mut table);
-    let mut page = [0xAAu8; 2048];
+    let mut page = [0xAAu8; 1024];
     let size = text::index(line, 3);
-    if 2048 < size {
+    if 1024 < size {
         show::nothing();
         return;
     }

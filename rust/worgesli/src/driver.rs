@@ -93,7 +93,7 @@ pub struct Driver {
     pub(crate) table_len: usize,
     /// behind a resync, the memory reads before the one that is not trusted yet; else the greatest number
     pub(crate) doubt: u64,
-    /// the sink knows the table, which is not asked for again then. It is not saved: another process has another sink
+    /// the sink of this call knows the table, which is not asked for again then. It is not saved: another process has another sink
     told: bool,
     /// reads, writes and flushes of the channel that succeeded
     moves: u64,
@@ -195,14 +195,17 @@ impl Driver {
         end.or_else(|why| self.hand_over_behind(&why, sink).and(Err(why)))
     }
 
-    /// Gives up: a table that came whole and was not told yet is, what was gathered is handed over, a region's close that is owed is made, and the session
-    /// is closed; nothing more is sent. Gives the refusal: 23, or 4 where it had ended.
+    /// Gives up: a table that came whole, is not in doubt and was not told yet is, what was gathered is handed over, a region's close that is owed is made, and
+    /// the session is closed; nothing more is sent. A table that the sink does not take keeps it from nothing but the last of these. Gives the refusal: 23, or 4
+    /// where it had ended.
     pub fn close<S: Sink + ?Sized>(&mut self, sink: &mut S) -> Result<Refusal, Error> {
+        let told = self.tell(sink);
         self.reopen(sink)?;
         self.hand_over(sink)?;
         if let (Owed::Close(place), Region::Open) = (self.owed, self.region) {
             self.close_region(sink, place)?;
         }
+        told?;
         self.owed = Owed::Nothing;
         self.table_len = self.table().len();
         match self.session.closed() {
@@ -230,8 +233,7 @@ impl Driver {
         if let Owed::Send(1.., _) | Owed::Flush = self.owed {
             self.settle(channel, sink)?;
         }
-        self.drain(channel)?;
-        // an answer that came behind a resync and is not trusted yet: what would have shown that it was another was heard just now
+        // an answer that came behind a resync and is not trusted yet: what would show that it was another is heard now
         let doubted = s.reads > self.doubt;
         match (phase, self.owed) {
             // it is still to be sent, and counted already
@@ -240,6 +242,9 @@ impl Driver {
             (Phase::Between, _) if !doubted => self.doubt = s.reads,
             _ => self.table_again(),
         }
+        // written down before: what is heard is gone, also where the channel then fails or panics
+        self.drain(channel)?;
+        self.tell(sink)?;
         self.reopen(sink)
     }
 
@@ -266,15 +271,17 @@ impl Driver {
             // it still comes
             _ => return Ok(()),
         };
-        let heard = self.drain(channel);
-        if let Ok(0) = heard {
-            self.doubt = u64::MAX;
-            return Ok(());
-        }
-        // of a channel that failed it is not known what it said before
+        let as_it_came = (self.session, self.kept, self.from, self.to, self.owed, self.region);
+        // written down before: of a channel that fails or panics it is not known what it said
         match in_region {
             true => self.chunk_again(self.asked),
             false => self.table_again(),
+        }
+        let heard = self.drain(channel);
+        if let Ok(0) = heard {
+            (self.session, self.kept, self.from, self.to, self.owed, self.region) = as_it_came;
+            self.doubt = u64::MAX;
+            return Ok(());
         }
         let more = io::Error::new(ErrorKind::InvalidData, "more came than was asked for: it is asked for again");
         heard.and(Err(Error::Channel(more)))
@@ -313,6 +320,8 @@ impl Driver {
         S: Sink + ?Sized,
         P: FnMut(Progress),
     {
+        // where no region is open, the sink may be another than the last call's
+        self.told &= self.region != Region::None;
         self.settle(channel, sink)?;
         let gathers = sink.gathers().min(INPUT);
         // whether the next step may need bytes. Where it does and is lent none, it only says go. In a region the step before told how many.
@@ -425,6 +434,7 @@ impl Driver {
         C: Read + Write + ?Sized,
         S: Sink + ?Sized,
     {
+        self.tell(sink)?;
         self.reopen(sink)?;
         match self.owed {
             Owed::Nothing => Ok(()),
@@ -519,10 +529,9 @@ impl Driver {
         Ok(())
     }
 
-    /// What the sink must know first: the table, and a region of an earlier process that goes on.
+    /// A region of an earlier process goes on.
     #[cold]
     fn reopen<S: Sink + ?Sized>(&mut self, sink: &mut S) -> Result<(), Error> {
-        self.tell(sink)?;
         if self.region != Region::Before {
             return Ok(());
         }

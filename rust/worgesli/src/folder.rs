@@ -117,8 +117,13 @@ impl Folder {
 
     /// Whether the region sheet is written. It is unless this says no.
     pub fn sheet(mut self, wanted: bool) -> Folder {
-        self.sheets = wanted;
+        self.set_sheet(wanted);
         self
+    }
+
+    /// As [`sheet`](Folder::sheet), between two runs: a run that the sheet stopped goes on without it.
+    pub fn set_sheet(&mut self, wanted: bool) {
+        self.sheets = wanted;
     }
 
     /// The folder.
@@ -303,9 +308,10 @@ impl Sink for Folder {
     /// A table without an entry has an empty sheet: where there is none, no table came.
     fn table(&mut self, table: &[u8], width: Width) -> io::Result<()> {
         match self.sheets {
-            true => self.keep_sheet(&region_sheet(table, width)),
-            false => Ok(()),
+            true => self.keep_sheet(&region_sheet(table, width))?,
+            false => self.sheet = None,
         }
+        Ok(())
     }
 
     /// Made anew after an error of the manifest, it goes on with the file that it made.

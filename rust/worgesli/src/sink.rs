@@ -6,8 +6,9 @@ use std::io::{self, ErrorKind};
 /// Takes the table, then regions, one at a time: an open, its bytes in order, a close. What failed, or panicked, is asked anew when the run goes on.
 pub trait Sink {
     /// The memory table came whole: its bytes, and how wide the numbers in it are. Told before the first region is opened or goes on and, where none is
-    /// chosen, before the end; where no table came, or not all of one, it is not. It may be told more than once: after an error or a panic, by another
-    /// process that goes on with the run, or of another table, where a run that is older than the table asked for it again.
+    /// chosen, before the end; where no table came, or not all of one, it is not. It may be told more than once: by a call that begins between two regions, whose
+    /// sink may be another, after an error or a panic, by another process that goes on with the run, or of another table, where a run that is older than the
+    /// table asked for it again. A sink that wraps another hands it on.
     fn table(&mut self, _table: &[u8], _width: Width) -> io::Result<()> {
         Ok(())
     }

@@ -12,8 +12,8 @@ use std::path::Path;
 use std::sync::Arc;
 
 impl Folder {
-    /// Goes on with the regions of a [manifest](Folder::manifest_path), where another process left them. A limit, and that digests are not
-    /// wanted, is to be said anew. No other process may be at it any more.
+    /// Goes on with the regions of a [manifest](Folder::manifest_path), where another process left them. A limit, and that digests or a sheet
+    /// are not wanted, is to be said anew. No other process may be at it any more.
     pub fn resume(manifest: impl AsRef<Path>) -> io::Result<Folder> {
         Folder::resume_on(Arc::new(System), manifest.as_ref())
     }

@@ -7,6 +7,7 @@ use super::{saying, Folder};
 use crate::disk::read_full;
 use std::ffi::{OsStr, OsString};
 use std::io::{self, ErrorKind};
+use std::os::unix::ffi::OsStrExt;
 use std::path::{Path, PathBuf};
 
 impl Folder {
@@ -31,13 +32,14 @@ impl Folder {
         Err(ErrorKind::AlreadyExists.into())
     }
 
-    /// By the manifest's number, or its name where that has none: with a `~` and more than a number behind it, which no region's file has.
+    /// By the manifest's number, or its name where that has none, cut where the sheet's would be too long: with a `~` and more than a number behind it, which no
+    /// region's file has.
     fn sheet_name(&self, n: u64) -> PathBuf {
         let manifest = self.manifest.file_name().unwrap_or_default();
         let number = manifest.to_str().and_then(|m| m.strip_prefix("manifest~")?.strip_suffix(".tsv"));
         let number = number.filter(|n| n.bytes().all(|b| b.is_ascii_digit()));
         let mut name = OsString::from("regions~");
-        name.push(number.map_or(manifest, OsStr::new));
+        name.push(number.map_or(OsStr::from_bytes(&manifest.as_bytes()[..manifest.len().min(200)]), OsStr::new));
         if n > 1 {
             name.push(format!("~{n}"));
         }

@@ -615,6 +615,13 @@ fn sheet_that_is_not_kept() {
     assert_eq!(folder.sheet_path(), Some(&*t.0.join("regions~1~2.txt")));
     assert_eq!(fs::read_to_string(t.0.join("regions~1~2.txt")).unwrap(), format!("{:20} {:016X} {:016X}  \n", "", 0, 0));
     synced_sheets(&disk, &folder, 2);
+    // without one it goes on, and names none
+    disk.fail_next("write", 28);
+    assert_eq!(tell(&mut folder, &table), Err(ErrorKind::StorageFull));
+    tell(&mut folder, &other).unwrap();
+    folder.set_sheet(false);
+    tell(&mut folder, &table).unwrap();
+    assert_eq!(folder.sheet_path(), None);
 }
 
 /// So many sheets are on the disk for sure, among them the one that the folder names.

@@ -218,7 +218,7 @@ fn parts_have_other_names() {
     }
 }
 
-/// No file that is there is opened or overwritten: no file, no folder, no link, wherever it leads; a `.part` neither.
+/// No file that is there is written or written over: no file, no folder, no link, wherever it leads; a `.part` neither.
 #[test]
 fn no_file_is_overwritten() {
     for width in Width::BOTH {

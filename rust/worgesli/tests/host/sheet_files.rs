@@ -193,11 +193,30 @@ fn told_again() {
     }
 }
 
+/// A run that goes on into another folder, where the first would not take it, has the sheet there too.
+#[test]
+fn another_folder() {
+    for width in Width::BOTH {
+        let (t, other) = (Temporary::new(), Temporary::new());
+        let regions = [Region::new("A", 0, 9000)];
+        let (_, mut wire, mut run) = start(width, &regions, Faults::default());
+        let mut sink = Folder::new(t.dump()).unwrap().limit(100);
+        assert!(matches!(run.run(&mut wire, &mut sink, |_| ()), Err(Error::Sink(_))));
+        assert_eq!(t.names(), ["manifest~1.tsv", "regions~1.txt"]);
+        run.run(&mut wire, &mut Folder::new(other.dump()).unwrap(), |_| ()).unwrap();
+        assert_eq!(other.names(), ["A", "manifest~1.tsv", "regions~1.txt"]);
+        assert_eq!(other.read("regions~1.txt"), lines(&regions).as_bytes());
+    }
+}
+
 /// A process that goes on has the sheet of the one before; the manifest may have got another name meanwhile.
 #[test]
 fn another_process() {
     let regions = [Region::new("A.BIN", 7, 9000), Region::new("B.BIN", 9, 9).unpreferred()];
-    let names: [(&[u8], &[u8]); 7] = [
+    let long = [b'm'; 251];
+    let cut = [&b"regions~"[..], &long[..200], b".txt"].concat();
+    let names: [(&[u8], &[u8]); 8] = [
+        (&long, &cut),
         (b"manifest~1.tsv", b"regions~1.txt"),
         (b"manifest~27.tsv", b"regions~27.txt"),
         (b"job 7.tsv", b"regions~job 7.tsv.txt"),

@@ -1,10 +1,10 @@
-//! The table as a sink is told it: when it is whole, before any region, once; and again where the first time failed or was another process's.
+//! The table as a sink is told it: when it is whole, before any region, once a call; and again where the first time failed or was another process's.
 use crate::resync::{bytes_of, two_regions, Pauses};
 use crate::world::{host_width, worlds, Cut, Record, World};
 use device::{Device, Division, Faults, Memory, Region, Width, Wire};
 use std::io::{self, ErrorKind};
 use std::panic::{catch_unwind, resume_unwind, AssertUnwindSafe};
-use worgesli::{Backend, Command, Driver, Entry, Error, Mode, Options, Outcome, Phase, Sink, Unkept};
+use worgesli::{Backend, Command, Count, Driver, Entry, Error, Mode, Options, Outcome, Phase, Sink, Unkept};
 
 #[derive(Clone, Debug, PartialEq, Eq)]
 enum Heard {
@@ -19,6 +19,7 @@ enum Heard {
 enum Wrong {
     Full,
     Interrupted,
+    Reset,
     Panic,
 }
 
@@ -27,6 +28,7 @@ impl Wrong {
         match self {
             Wrong::Full => ErrorKind::StorageFull.into(),
             Wrong::Interrupted => ErrorKind::Interrupted.into(),
+            Wrong::Reset => ErrorKind::ConnectionReset.into(),
             // no message: it is expected
             Wrong::Panic => resume_unwind(Box::new("panic")),
         }
@@ -57,9 +59,16 @@ impl<S> Ear<S> {
         self.heard.iter().filter(|h| matches!(h, Heard::Table(..))).count()
     }
 
-    /// All that was heard began with the table, right and told once.
+    /// All that was heard began with the table, and each time it was the right one.
     fn table_first(&self, w: &World) {
-        assert_eq!((self.heard.first(), self.tables()), (Some(&table(w)), 1), "{w:?}: {:?}", self.heard);
+        assert_eq!(self.heard.first(), Some(&table(w)), "{w:?}");
+        assert!(self.heard.iter().all(|h| !matches!(h, Heard::Table(..)) || *h == table(w)), "{w:?}: {:?}", self.heard);
+    }
+
+    /// The same, and it was told once.
+    fn table_first_and_once(&self, w: &World) {
+        self.table_first(w);
+        assert_eq!(self.tables(), 1, "{w:?}: {:?}", self.heard);
     }
 }
 
@@ -125,7 +134,7 @@ fn told_once() {
             _ => run.run(&mut wire, &mut sink, |_| ()),
         };
         assert_eq!(end.unwrap(), Outcome::Dumped { reads: w.memory_reads() });
-        sink.table_first(&w);
+        sink.table_first_and_once(&w);
         assert_eq!(table(&w), Heard::Table(run.table().to_vec(), run.session().width()));
         assert_eq!(sink.to.0, w.kept(), "seed {seed}, {w:?}");
         none_chosen += u64::from(w.selected().is_empty());
@@ -133,18 +142,44 @@ fn told_once() {
     assert!(none_chosen > 300, "{none_chosen}");
 }
 
-/// A step at a time: not before it is whole, and by the step that makes it so.
+/// A step at a time: not before it is whole, by the step that makes it so, and by each that begins between two regions.
 #[test]
 fn told_step_by_step() {
     for (seed, w) in worlds(0..300) {
         let (mut wire, mut sink) = (wire(&w, Division::Random, seed), Ear::new(Record::default()));
         let mut run = w.options().start().unwrap();
-        while run.step(&mut wire, &mut sink, |_| ()).unwrap().is_none() {
+        let (mut due, mut ended) = (0, false);
+        while !ended {
+            let (between, before) = (run.session().phase() == Phase::Between, in_regions(&run));
+            ended = run.step(&mut wire, &mut sink, |_| ()).unwrap().is_some();
             let whole = in_regions(&run);
-            assert_eq!(sink.tables(), usize::from(whole), "seed {seed}, {w:?}");
-            assert_eq!(run.table() == w.memory.table(), whole || w.memory.table().is_empty());
+            due += usize::from(between || (whole && !before));
+            assert_eq!(sink.tables(), due, "seed {seed}, {w:?}");
+            assert!(ended || (run.table() == w.memory.table()) == (whole || w.memory.table().is_empty()));
         }
         sink.table_first(&w);
+    }
+}
+
+/// Who looks at the table with one sink and fetches with another, or goes on with another between two regions: each is told first.
+#[test]
+fn another_sink() {
+    for (steps, width) in Width::with_both([0, 1]) {
+        let w = two_regions(width, Backend::Usb);
+        let (mut wire, mut run) = (wire(&w, Division::Random, 1), w.options().start().unwrap());
+        while run.session().phase() != Phase::Between {
+            run.step(&mut wire, &mut Count::default(), |_| ()).unwrap();
+        }
+        let mut sink = Ear::new(Record::default());
+        for _ in 0..steps {
+            (sink.no_open, sink.heard) = (true, Vec::new());
+            assert!(is_full(&run.run(&mut wire, &mut sink, |_| ()).unwrap_err()));
+            sink.table_first_and_once(&w);
+            sink = sink.in_another();
+        }
+        run.run(&mut wire, &mut sink, |_| ()).unwrap();
+        sink.table_first_and_once(&w);
+        assert!(sink.to.0 == w.kept());
     }
 }
 
@@ -160,7 +195,7 @@ fn told_by_each_process() {
             let before = in_regions(&run);
             let ended = run.step(&mut wire, &mut sink, |_| ()).unwrap().is_some();
             match before || in_regions(&run) {
-                true => sink.table_first(&w),
+                true => sink.table_first_and_once(&w),
                 false => assert_eq!(sink.heard, [], "seed {seed}, {w:?}"),
             }
             told += sink.tables();
@@ -187,7 +222,7 @@ fn told_before_what_is_owed() {
             assert!(is_full(&run.run(&mut wire, &mut sink, |_| ()).unwrap_err()));
             let (mut run, mut sink) = (w.options().restore(&run.save()).unwrap(), sink.in_another());
             run.run(&mut wire, &mut sink, |_| ()).unwrap();
-            sink.table_first(&w);
+            sink.table_first_and_once(&w);
             assert_eq!(sink.heard[1..1 + due.len()], due);
             assert!(sink.to.0 == w.kept());
         }
@@ -221,7 +256,9 @@ fn a_sink_that_fails() {
         }
         assert_eq!(failed, if matches!(wrong, Wrong::Full) { 3 } else { 0 });
         assert_eq!(sink.heard[..5], [vec![table(&w); 4], vec![Heard::Open(0)]].concat());
-        assert_eq!((sink.tables(), sink.to.0), (4, w.kept()));
+        assert!(sink.tables() == 4 || (steps && sink.tables() > 4));
+        sink.table_first(&w);
+        assert_eq!(sink.to.0, w.kept());
     }
 }
 
@@ -251,7 +288,7 @@ fn a_sink_that_panics() {
 }
 
 /// Who gives up when the table is there has it, and who gives up before has not: behind any step, in the process that made it and in another. A sink that cannot
-/// take it keeps the run from being closed, and loses nothing.
+/// take it keeps the run from being closed, and gets all the bytes.
 #[test]
 fn given_up() {
     for ((restored, fails), width) in Width::with_both([(false, 0), (false, 3), (true, 0), (true, 2)]) {
@@ -277,19 +314,22 @@ fn given_up() {
             }
             let whole = in_regions(&run);
             seen[run.session().phase() as usize] += 1;
+            let bytes = |sink: &Ear<Record>| sink.to.0.iter().map(|r| r.bytes.len() as u64).sum::<u64>();
+            let due = wire.given.saturating_sub(w.opening() + w.memory.table_len());
             for _ in 0..if whole { sink.table.len() } else { 0 } {
                 assert!(is_full(&run.close(&mut sink).unwrap_err()));
+                assert_eq!(bytes(&sink), due, "{steps} steps");
             }
             for number in [23, 4, 4] {
                 assert_eq!(run.close(&mut sink).unwrap().number(), number);
             }
             match whole {
-                true => assert_eq!((sink.tables(), &sink.heard[0]), (1 + fails, &table(&w))),
+                true if restored || fails > 0 => assert_eq!((sink.tables(), &sink.heard[0]), (1 + fails, &table(&w))),
+                true => sink.table_first(&w),
                 false => assert_eq!(sink.heard, []),
             }
             assert_eq!(run.table() == w.memory.table(), whole);
-            let bytes: u64 = sink.to.0.iter().map(|r| r.bytes.len() as u64).sum();
-            assert_eq!(bytes, wire.given.saturating_sub(w.opening() + w.memory.table_len()), "{steps} steps");
+            assert_eq!(bytes(&sink), due, "{steps} steps");
         }
         assert!(seen[Phase::Table as usize] > 0 && seen[Phase::Between as usize] > 0, "{seen:?}");
         assert!(seen[Phase::Region as usize] > 30 || fails == 3, "{seen:?}");
@@ -342,18 +382,18 @@ fn refused_regions() {
             let w = World::new(width, Backend::Serial, &[region, Region::new("B.BIN", 1, 1)]);
             let (mut wire, mut sink) = (wire(&w, Division::Random, 1), Ear::new(Record::default()));
             assert_eq!(w.options().start().unwrap().run(&mut wire, &mut sink, |_| ()).unwrap_err().number(), Some(number));
-            sink.table_first(&w);
+            sink.table_first_and_once(&w);
         }
     }
 }
 
-/// Goes on behind each error, resyncing where the device is silent.
+/// Goes on behind each error and panic, resyncing where the device is silent.
 fn run_on(run: &mut Driver, channel: &mut (impl io::Read + io::Write), sink: &mut impl Sink) {
     for _ in 0..20 {
-        match run.run(channel, sink, |_| ()) {
-            Ok(end) => return assert!(matches!(end, Outcome::Dumped { .. })),
-            Err(Error::TimedOut(_)) => drop(run.resync(channel, sink)),
-            Err(_) => {}
+        match catch_unwind(AssertUnwindSafe(|| run.run(channel, sink, |_| ()))) {
+            Ok(Ok(end)) => return assert!(matches!(end, Outcome::Dumped { .. })),
+            Ok(Err(Error::TimedOut(_))) => drop(run.resync(channel, sink)),
+            Ok(Err(_)) | Err(_) => {}
         }
     }
     panic!("it does not end");
@@ -376,13 +416,12 @@ fn a_byte_is_lost() {
 }
 
 /// Fails once, where it is to, behind a read that gave bytes.
-struct Breaks(Pauses, bool, bool);
+struct Breaks(Pauses, Option<Wrong>, bool);
 
 impl io::Read for Breaks {
     fn read(&mut self, to: &mut [u8]) -> io::Result<usize> {
-        if self.1 && self.2 {
-            self.1 = false;
-            return Err(ErrorKind::ConnectionReset.into());
+        if let Some(wrong) = self.1.take_if(|_| self.2) {
+            return Err(wrong.come());
         }
         let read = self.0.read(to);
         self.2 = read.as_ref().is_ok_and(|n| *n > 0);
@@ -400,14 +439,14 @@ impl io::Write for Breaks {
 }
 
 /// A device that pauses: what is asked for again comes behind late bytes, and the mixture of both is not told, nor kept; not by a run that is restored or given up
-/// in doubt, and not by one that has heard the bytes that would have shown it, in a resync more or before the channel failed.
+/// in doubt, and not by one that has heard the bytes that would have shown it: in a resync more, or before the channel failed or panicked, in a resync too.
 #[test]
 fn late_bytes() {
-    for (way, width) in Width::with_both([0, 1, 2, 3, 4]) {
+    for (way, width) in Width::with_both([0, 1, 2, 3, 4, 5, 6, 7]) {
         let w = two_regions(width, Backend::Serial);
         let mut mixed = 0;
         for at in bytes_of(&w).step_by(if way == 0 { 7 } else { 3 }) {
-            let mut channel = Breaks(Pauses(wire(&w, Division::Whole, at), at, 2), false, false);
+            let mut channel = Breaks(Pauses(wire(&w, Division::Whole, at), at, 2), None, false);
             let (mut run, mut sink) = (w.options().start().unwrap(), Ear::new(Cut::default()));
             assert!(matches!(run.run(&mut channel, &mut sink, |_| ()), Err(Error::TimedOut(_))), "byte {at}");
             run.resync(&mut channel, &mut sink).unwrap();
@@ -431,7 +470,11 @@ fn late_bytes() {
                     (run, sink) = (w.options().restore(&run.save()).unwrap(), sink.in_another());
                     run.resync(&mut channel, &mut sink).unwrap();
                 }
-                _ => (channel.1, channel.2) = (true, false),
+                _ => (channel.1, channel.2) = (Some([Wrong::Reset, Wrong::Panic][way % 2]), false),
+            }
+            if way > 5 {
+                let again = catch_unwind(AssertUnwindSafe(|| run.resync(&mut channel, &mut sink)));
+                assert!(matches!((again, way), (Ok(Err(Error::Channel(_))), 6) | (Err(_), 7)), "byte {at}");
             }
             run_on(&mut run, &mut channel, &mut sink);
             sink.table_first(&w);

@@ -1,4 +1,4 @@
--- The page lent is as long as the size, which is at most 2,048. Assumes nothing.
+-- The page lent is as long as the size, which is at most 1,024. Assumes nothing.
 use native.Mathlib.Omega.{arith}
 use lib.ListN.{length-take, length-replicate}
 use borrow.Author.Needs.{needs}
