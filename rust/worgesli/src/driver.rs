@@ -134,7 +134,8 @@ impl Driver {
         &self.session
     }
 
-    /// The memory table, as much of it as came: none before a device offered its memory.
+    /// The memory table, as much of it as came: none before a device offered its memory. What a [resync](Driver::resync) asked for again is in doubt until a step
+    /// is made from it.
     pub fn table(&self) -> &[u8] {
         let len = match self.session.phase() {
             Phase::Table => self.session.raw().at,
