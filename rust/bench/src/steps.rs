@@ -105,4 +105,9 @@ pub fn print(width: Width, entries: usize, many: usize) {
         black_box(raw::wanted_in_place(black_box(&waiting)));
     };
     println!("    {:<44} {:8.1} {:8.1}", "wanted, in a region", least(place), least(wanted));
+    let mut page = vec![0; raw::SHEET_LINE_LEN * entries];
+    let sheet = || {
+        black_box(raw::region_sheet(black_box(&bytes), width.bits().into(), &mut page));
+    };
+    println!("    {:<44} {:8} {:8.1}", "the region sheet, which is no step", "", least(sheet));
 }
