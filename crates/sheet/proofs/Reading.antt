@@ -1,8 +1,8 @@
 -- What may be read off a sheet: line i is of entry i alone; each byte of a line but the last is printable, and the last is a line feed; two tables with the same
 -- sheet have as many entries, with the same names as printed, bases, lengths and marks. That a page keeps its length. Assumes nothing.
-use mathlib.Core.Path.{_≡_, refl, sym, ap, _∙_}
+use mathlib.Core.Path.{_≡_, refl, sym, ap, subst, _∙_}
 use mathlib.Core.Bool.{Bool, true, false, _&&_}
-use mathlib.Core.Logic.{⊎-elim}
+use mathlib.Core.Logic.{⊎-elim, _⊎_, inl, inr}
 use mathlib.Core.List.{List, [], _∷_, _++_, map}
 use Prim.Native.Nat.{ℕ, zero, suc, _+_, _-_, _*_, _/_, _%_, _^_, _<_, _≤_}
 use native.Mathlib.Omega.{arith}
@@ -157,6 +157,18 @@ module _ (f : ℕ) (t : List ℕ) where
     pub ended-at : getD (sheetBytes f t) (57 * i + 56) 0 ≡ lineFeed
     unfolding lineOf
     ended-at = byte-at 56 (omega arith) ∙ getD-at (textOf (entryIn f t i)) lineFeed [] 0 56 (length-text (entryIn f t i) (name-20 f t i h))
+
+-- so each byte of a sheet is printable or a line feed
+pub byte-is : (f : ℕ) (t : List ℕ) (k : ℕ) → k < sheetSize f t → Printable (getD (sheetBytes f t) k 0) ⊎ (getD (sheetBytes f t) k 0 ≡ lineFeed)
+byte-is f t k h =
+    let e : 57 * (k / 57) + k % 57 ≡ k = omega arith in
+    let l : k / 57 < entriesIn f (length t) = omega arith in
+    ⊎-elim
+    (λ (j : k % 57 < 56). inl (subst (λ (n : ℕ). Printable (getD (sheetBytes f t) n 0)) e (printable-at f t (k / 57) l (k % 57) j)))
+    (λ (j : 56 ≤ k % 57).
+    let q : 57 * (k / 57) + 56 ≡ k = omega arith in
+    inr (subst (λ (n : ℕ). getD (sheetBytes f t) n 0 ≡ lineFeed) q (ended-at f t (k / 57) l)))
+    (below-or-not (k % 57) 56)
 
 -- ---- what a line says
 

@@ -58,7 +58,7 @@ pub fn next_selected(table: &[u8], width: Width, entries: usize, names: &NameLis
 pub fn region_sheet(table: &[u8], width: Width) -> String {
     let mut page = vec![0; raw::SHEET_LINE_LEN * (table.len() / width.entry_len())];
     let sheet = raw::region_sheet(table, width as u64, &mut page);
-    page.truncate(sheet.written);
+    assert_eq!((sheet.written, sheet.refused), (page.len(), 0), "a page has a line for each entry");
     String::from_utf8(page).expect("a sheet is printable ASCII")
 }
 
