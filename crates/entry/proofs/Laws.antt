@@ -2,7 +2,7 @@
 use mathlib.Core.Path.{_≡_, refl, sym, ap, _∙_}
 use mathlib.Core.Bool.{true, false}
 use mathlib.Core.List.{List}
-use Prim.Native.Nat.{ℕ, _+_, _*_, _/_, _<_, _≤_}
+use Prim.Native.Nat.{ℕ, zero, suc, _+_, _*_, _/_, _<_, _≤_}
 use native.Mathlib.Omega.{arith}
 use native.Mathlib.Nat.{mul-add, mul-one, mul-comm, le-div-iff-mul-le, div-lt-iff-lt-mul}
 use borrow.Author.Tests.{le-leb, lt-leb, lt-ltb, le-ltb, leb-true, leb-false}
@@ -14,7 +14,7 @@ use Rattle.base.proofs.Ranges.{by-test}
 use Rattle.field.specs.Field.{le}
 use Rattle.field.proofs.Laws.{le-within}
 use Rattle.entry.specs.declared.EntryAt.{EntryAt}
-use Rattle.entry.specs.Entry.{entrySize, entryOf, filenameOf, there, decoded, nothing, entryAt}
+use Rattle.entry.specs.Entry.{entrySize, entriesIn, entryOf, filenameOf, there, decoded, entryIn, entriesFrom, nothing, entryAt}
 
 -- a number that lies within the n bytes from m on is that of the whole list
 pub number-within : (w k n m : ℕ) (l : List ℕ) → k + w ≤ n → le w (drop k (take n (drop m l))) ≡ le w (drop (m + k) l)
@@ -65,6 +65,15 @@ there-below f t i =
     let w : length t < (i + 1) * entrySize f = rw e (missing-beyond f t i h) in
     let q : length t / entrySize f < i + 1 = div-lt-iff-lt-mul {k = entrySize f} (omega arith) .1 w in
     h ∙ sym (le-ltb i (length t / entrySize f) (omega arith)))
+
+-- what is found at one of them is the entry, decoded
+pub entry-found : (f : ℕ) (t : List ℕ) (i : ℕ) → i < entriesIn f (length t) → entryAt f t i .entry ≡ entryIn f t i
+entry-found f t i h = entry-told f t i (entry-flag f t i ∙ there-below f t i ∙ lt-ltb i (length t / entrySize f) h)
+
+pub length-entries : (f : ℕ) (t : List ℕ) (k i : ℕ) → length (entriesFrom f t k i) ≡ k
+unfolding entriesFrom
+length-entries f t zero i = refl
+length-entries f t (suc k) i = ap suc (length-entries f t k (suc i))
 
 -- an entry that is there has its bytes, and its filename 20
 pub length-entry : (f : ℕ) (t : List ℕ) (i : ℕ) → there f t i ≡ true → length (entryOf f t i) ≡ entrySize f

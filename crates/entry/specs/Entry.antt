@@ -1,9 +1,9 @@
 -- Entries of the memory table. Document 01, Records, "Table entry": 64 bytes: preference, base, length (8 each), description and filename (20 each).
 -- Document 02, request 2: "Their table entries are 52 bytes: preference, base and length in 4 bytes each, then the two 20-byte texts." The width f of the three
 -- numbers, 8 or 4 (`fieldSize` of field/specs/Field), is a parameter of each definition.
-use Prim.Native.Nat.{ℕ, _+_, _*_, _/_}
+use Prim.Native.Nat.{ℕ, zero, suc, _+_, _*_, _/_}
 use mathlib.Core.Bool.{Bool, true, false}
-use mathlib.Core.List.{List}
+use mathlib.Core.List.{List, [], _∷_}
 use lib.Dec.{leb}
 use lib.ListN.{length, take, drop, replicate}
 use Rattle.base.specs.Choice.{pick}
@@ -55,6 +55,14 @@ decoded f e =
 -- entry i of a table, decoded, where it is there
 abbrev pub entryIn : ℕ → List ℕ → ℕ → RamdumpTable64
 entryIn f t i = decoded f (entryOf f t i)
+
+-- k entries of a table from i on, decoded; and all of them
+unfoldable pub entriesFrom : ℕ → List ℕ → ℕ → ℕ → List RamdumpTable64
+entriesFrom f t zero i = []
+entriesFrom f t (suc k) i = entryIn f t i ∷ entriesFrom f t k (suc i)
+
+abbrev pub entriesOf : ℕ → List ℕ → List RamdumpTable64
+entriesOf f t = entriesFrom f t (entriesIn f (length t)) 0
 
 -- an entry of zeros stands for one that is not there
 abbrev pub nothing : RamdumpTable64

@@ -49,7 +49,7 @@ module _ (f : ℕ) (b t : List ℕ) (n : ℕ) (e : take n b ≡ t) (l : n ≤ le
   selected-same names i h = rw (entry-there i h, entry-same i h) refl
 
   -- the search stops at the first of the chosen ones
-  record Hit (names : List ℕ) (k i : ℕ) : Type 0 where
+  pub record Hit (names : List ℕ) (k i : ℕ) : Type 0 where
     pub first : chosen f names t k i ≡ nextOf f names b k i ∷ chosen f names t (i + k - suc (nextOf f names b k i)) (suc (nextOf f names b k i))
     pub later : i ≤ nextOf f names b k i
     pub chose : selected f names (entryOf f t (nextOf f names b k i)) ≡ true
@@ -79,7 +79,7 @@ module _ (f : ℕ) (b t : List ℕ) (n : ℕ) (e : take n b ≡ t) (l : n ≤ le
   unfolding chosen
   chosen-end names i = refl
 
-  hit : (names : List ℕ) (k i : ℕ) → i + k ≤ n / entrySize f → nextOf f names b k i < i + k → Hit names k i
+  pub hit : (names : List ℕ) (k i : ℕ) → i + k ≤ n / entrySize f → nextOf f names b k i < i + k → Hit names k i
   hit names zero i m h = absurd (omega (arith, next-end names i))
   hit names (suc k) i m h =
       let j : i < n / entrySize f = omega arith in
@@ -102,7 +102,7 @@ module _ (f : ℕ) (b t : List ℕ) (n : ℕ) (e : take n b ≡ t) (l : n ≤ le
       })
 
   -- where it finds none, none is chosen
-  miss : (names : List ℕ) (k i : ℕ) → i + k ≤ n / entrySize f → i + k ≤ nextOf f names b k i → chosen f names t k i ≡ []
+  pub miss : (names : List ℕ) (k i : ℕ) → i + k ≤ n / entrySize f → i + k ≤ nextOf f names b k i → chosen f names t k i ≡ []
   miss names zero i m h = chosen-end names i
   miss names (suc k) i m h =
       let j : i < n / entrySize f = omega arith in

@@ -63,7 +63,7 @@ Tally k [] = Unit
 Tally k (r ∷ l) = endsAt k r l × Tally (k + one (readIn r)) l
 
 -- whether an end is among them
-abbrev isEnd : Report → Bool
+abbrev pub isEnd : Report → Bool
 isEnd (sent p) = false
 isEnd (image p) = false
 isEnd (opened i) = false
@@ -119,7 +119,7 @@ told-end (x ∷ l) m k how r f =
 -- ---- one step
 
 -- while packets are read, no memory read was sent
-abbrev calmIn : Phase → ℕ → Type 0
+abbrev pub calmIn : Phase → ℕ → Type 0
 calmIn (P.Packet h) r = r ≡ 0
 calmIn (P.Response x) r = Unit
 calmIn (P.Switched k) r = Unit
@@ -128,7 +128,7 @@ calmIn (P.Between k i) r = Unit
 calmIn (P.Region k x) r = Unit
 calmIn (P.Ended k) r = Unit
 
-abbrev Calm : Session → Type 0
+abbrev pub Calm : Session → Type 0
 Calm s = calmIn (s .phase) (s .reads)
 
 -- a step from s counts what it sends
@@ -308,10 +308,10 @@ module _ (s : Session) (d set : List ℕ) where
 -- ---- any step of a list, whatever it is lent
 
 module _ (c : Setting) where
-  abbrev after : World Session → Lent → World Session
+  abbrev pub after : World Session → Lent → World Session
   after = next definitions c
 
-  abbrev says : World Session → Lent → List Report
+  abbrev pub says : World Session → Lent → List Report
   says = reported definitions c
 
   record Turned (w : World Session) (l : Lent) : Type 0 where
@@ -337,13 +337,13 @@ module _ (c : Setting) where
       counts-from ls (after w l) (r .calm) ∙ ap (λ (n : ℕ). n + readsIn rest) (r .reads)
       ∙ add-assoc (w .state .reads) (readsIn (says w l)) (readsIn rest) ∙ ap (λ (n : ℕ). w .state .reads + n) (sym (reads-append (says w l) rest))
 
-  turned-over : (w : World Session) (l : Lent) → Calm (w .state) → isEnded (w .state .phase) ≡ true
+  pub turned-over : (w : World Session) (l : Lent) → Calm (w .state) → isEnded (w .state .phase) ≡ true
       → (after w l .state ≡ w .state) × (says w l ≡ [])
   turned-over w l k h =
       step-over (w .state) (delivered (l .delivery) (w .queue)) (lent (l .set) (c .set)) k (lent (l .names) (c .names)) (lent (l .table) (w .table))
       (lent (l .reply) (w .reply)) (lent (l .out) (w .out)) h
 
-  all-over : (ls : List Lent) (w : World Session) → Calm (w .state) → isEnded (w .state .phase) ≡ true → reports definitions c w ls ≡ []
+  pub all-over : (ls : List Lent) (w : World Session) → Calm (w .state) → isEnded (w .state .phase) ≡ true → reports definitions c w ls ≡ []
   all-over [] w k h = refl
   all-over (l ∷ ls) w k h =
       let o = turned-over w l k h in

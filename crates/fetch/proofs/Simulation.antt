@@ -22,23 +22,23 @@ module _ (h k : Host) (R : h .State → k .State → Type 0) (fresh : (u : Openi
     (step : (s : h .State) (s′ : k .State) (d set names t y o : List ℕ) → R s s′
     → Alike R (h .step s d set names t y o) (k .step s′ d set names t y o)) (c : Setting) where
   -- worlds that differ in the state alone, and there as related
-  record Both (w : World (h .State)) (v : World (k .State)) : Type 0 where
+  pub record Both (w : World (h .State)) (v : World (k .State)) : Type 0 where
     pub state : R (w .state) (v .state)
     pub table : w .table ≡ v .table
     pub reply : w .reply ≡ v .reply
     pub out : w .out ≡ v .out
     pub queue : w .queue ≡ v .queue
 
-  both-start : Both (start h c) (start k c)
+  pub both-start : Both (start h c) (start k c)
   both-start = record { state = fresh (c .opening); table = refl; reply = refl; out = refl; queue = refl }
 
-  both-made : (w : World (h .State)) (v : World (k .State)) (l : Lent) → Both w v → Alike R (made h c w l) (made k c v l)
+  pub both-made : (w : World (h .State)) (v : World (k .State)) (l : Lent) → Both w v → Alike R (made h c w l) (made k c v l)
   both-made w v l b =
       rw (b .table, b .reply, b .out, b .queue)
       (step (w .state) (v .state) (delivered (l .delivery) (v .queue)) (lent (l .set) (c .set)) (lent (l .names) (c .names))
       (lent (l .table) (v .table)) (lent (l .reply) (v .reply)) (lent (l .out) (v .out)) (b .state))
 
-  both-kept : (w : World (h .State)) (v : World (k .State)) (l : Lent) → Both w v → Both (next h c w l) (next k c v l)
+  pub both-kept : (w : World (h .State)) (v : World (k .State)) (l : Lent) → Both w v → Both (next h c w l) (next k c v l)
   both-kept w v l b =
       let a = both-made w v l b in
       record {
@@ -49,14 +49,14 @@ module _ (h k : Host) (R : h .State → k .State → Type 0) (fresh : (u : Openi
         queue = rw (a .taken, a .answer, a .out, b .queue) refl;
       }
 
-  both-told : (w : World (h .State)) (v : World (k .State)) (l : Lent) → Both w v → reported h c w l ≡ reported k c v l
+  pub both-told : (w : World (h .State)) (v : World (k .State)) (l : Lent) → Both w v → reported h c w l ≡ reported k c v l
   both-told w v l b = let a = both-made w v l b in rw (a .answer, a .out, b .queue) refl
 
   both-fair : (w : World (h .State)) (v : World (k .State)) (l : Lent) → Both w v → Fair k c v l → Fair h c w l
   both-fair w v l b f = let a = both-made w v l b in rw (a .answer, b .queue) f
 
   module _ (ls : List Lent) where
-    same-reports : reports h c (start h c) ls ≡ reports k c (start k c) ls
+    pub same-reports : reports h c (start h c) ls ≡ reports k c (start k c) ls
     same-reports =
         outs-related (next h c) (next k c) Both both-kept (reported h c) (reported k c) both-told ls (start h c) (start k c) both-start
 

@@ -63,14 +63,14 @@ decoded-sane : (p : List ℕ) → DecodedSane (decodeOf p)
 unfolding decodeOf
 decoded-sane p = split DecodedSane (ltb (length p) 8) (λ e. refl) (λ e. class-sane p (classOf (commandField p)))
 
--- ---- what the verdict gives, of any image set: a reply is no memory read; an image lies within the set; a table fits its room; a
+-- ---- what the verdict gives, of any image set: a reply is no memory read; an image lies within the set; no packet finishes (3); a table fits its room; a
 -- refusal ends the session
 
 abbrev pub Sane : List ℕ → ℕ → Verdict → Type 0
 Sane set tsize (W.Reply q) = asks q ≡ false
 Sane set tsize (W.Image x k) = x + k ≤ length set
 Sane set tsize W.Pass = Unit
-Sane set tsize (W.Finish how) = Unit
+Sane set tsize (W.Finish how) = eqb how 3 ≡ false
 Sane set tsize (W.Respond c k) = Unit
 Sane set tsize (W.Debug v a k) = k ≤ room tsize
 Sane set tsize (W.Refused why) = Ends why
@@ -109,8 +109,8 @@ module _ (u : Opening) (set : List ℕ) (tsize rsize : ℕ) where
   on-body len (B.ReadReq b) = split Fine (eqb len 20) (λ e. image-sane (b .image) (b .offset) (b .len)) (λ e. refl)
   on-body len (B.Eoi b) = split Fine (eqb len 16) (λ e. split Fine (eqb (b .status) 0) (λ i. refl) (λ i. refl)) (λ e. refl)
   on-body len B.DoneReq = refl
-  on-body len (B.DoneResp b) = split Fine (eqb (b .status) 1) (λ e. tt) (λ e. split Fine (eqb (countOf set) 1) (λ i. tt) (λ i. tt))
-  on-body len B.ResetResp = split Fine (eqb len 8) (λ e. tt) (λ e. refl)
+  on-body len (B.DoneResp b) = split Fine (eqb (b .status) 1) (λ e. refl) (λ e. split Fine (eqb (countOf set) 1) (λ i. refl) (λ i. tt))
+  on-body len B.ResetResp = split Fine (eqb len 8) (λ e. refl) (λ e. refl)
   on-body len (B.DebugReq b) = table-sane len 16 WI.Bits32 (b .addr) (b .len)
   on-body len (B.ReadMemReq b) = refl
   on-body len B.CommandReady = split Fine (eqb len 8) (λ e. execute-sane (u .command)) (λ e. refl)

@@ -2,7 +2,7 @@
 -- step it shares the verdict on one whole packet and the leaves, and knows nothing of its phases. ("Opening" is what a session is opened with, as in
 -- verdict/specs/Opening; the device's first bytes are its opening bytes; a region is opened by a report `opened`.) Document 02, request 2: "After MemDebug the
 -- host, the plain host too, sends MemRead for the table and for every chunk, each counted as a memory read".
-use Prim.Native.Nat.{ℕ, zero, suc, _+_, _-_, _/_, _%_, min}
+use Prim.Native.Nat.{ℕ, zero, suc, _+_, _-_, _%_, min}
 use mathlib.Core.Bool.{Bool, true, false, not, _&&_, _||_}
 use mathlib.Core.List.{List, [], _∷_, _++_, map}
 use lib.Dec.{ltb, eqb}
@@ -18,7 +18,7 @@ use Rattle.command.specs.Command.{kindNumber}
 use Rattle.packet.specs.Packet.{commandField, lengthField, badLength}
 use Rattle.build.specs.Build.{readKind, bytesOf}
 use Rattle.build.specs.declared.Request.the-variants as Q
-use Rattle.verdict.specs.Opening.{chunkOf, onUsb}
+use Rattle.verdict.specs.Opening.{chunksIn, chunkOf, onUsb}
 use Rattle.verdict.specs.Verdict.{verdictOf}
 use Rattle.verdict.specs.declared.Opening.{Opening}
 use Rattle.verdict.specs.declared.Verdict.{Verdict}
@@ -138,7 +138,7 @@ chunks v u mem (suc fuel) a l =
 
 -- how many chunks: l / 4096 rounded up
 abbrev pub chunkCount : Opening → ℕ → ℕ
-chunkCount u l = (l + (chunkOf u - 1)) / chunkOf u
+chunkCount u l = chunksIn (chunkOf u) l
 
 -- the regions of the entries is of the table t, with r memory reads before them. "Last comes finished (3) with the count: one for the table, one a
 -- chunk."

@@ -60,7 +60,7 @@ opened-back u = rw (names-opening u, opening-back u) refl
 
 -- ---- a call of a session's numbers
 
-abbrev Numbers : Session → Called → Type 0
+abbrev pub Numbers : Session → Called → Type 0
 Numbers s k = rawOf s ≡ k .numbers
 
 -- both calls are the step
@@ -81,10 +81,10 @@ told-alike n r =
     }
 
 module _ (choice : ℕ → Call) where
-  opened-alike : (u : Opening) → Numbers (definitions .fresh u) (calling choice .fresh u)
+  pub opened-alike : (u : Opening) → Numbers (definitions .fresh u) (calling choice .fresh u)
   opened-alike u = opened-back u
 
-  call-alike : (s : Session) (k : Called) (d set names t y o : List ℕ) → Numbers s k
+  pub call-alike : (s : Session) (k : Called) (d set names t y o : List ℕ) → Numbers s k
       → Alike Numbers (definitions .step s d set names t y o) (calling choice .step k d set names t y o)
   call-alike s k d set names t y o e =
       rw (call-is (choice (k .calls)) (k .numbers) d set names t y o, sym e, step-told s d set names t y o) (told-alike _ (stepOf s d set names t y o))

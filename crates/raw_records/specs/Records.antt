@@ -1,5 +1,6 @@
--- A table entry, an image range, a check, a built packet and a region sheet's answer as plain numbers, as they cross to C and Rust. Where something is refused,
--- `refused` is its number in document 01, "Refusals", of a sheet in document 02, request 4, and every other number is 0; no refusal has the number 0.
+-- A table entry, an image range, a check, a built packet, a region sheet's answer and a forecast as plain numbers, as they cross to C and Rust. Where something is
+-- refused, `refused` is its number in document 01, "Refusals", of a sheet in document 02, request 4, of a forecast in its request 5, and every other number is 0; no
+-- refusal has the number 0.
 use Prim.Native.Nat.{ℕ}
 use Rattle.base.specs.Choice.{pick}
 use Rattle.bundle.specs.declared.Checked.{Checked}
@@ -7,6 +8,8 @@ use Rattle.bundle.specs.declared.Checked.the-variants as C
 use Rattle.build.specs.declared.Built.{Built}
 use Rattle.build.specs.declared.Built.the-variants as T
 use Rattle.entry.specs.declared.EntryAt.{EntryAt}
+use Rattle.forecast.specs.declared.Foreseen.{Foreseen}
+use Rattle.forecast.specs.declared.Foreseen.the-variants as F
 use Rattle.image.specs.declared.ImageRange.{ImageRange}
 use Rattle.image.specs.declared.ImageRange.the-variants as R
 use Rattle.sheet.specs.declared.Sheet.{Sheet}
@@ -14,6 +17,7 @@ use Rattle.sheet.specs.declared.Sheet.the-variants as S
 use Rattle.raw_records.specs.declared.RawEntry.{RawEntry}
 use Rattle.raw_records.specs.declared.RawRange.{RawRange}
 use Rattle.raw_records.specs.declared.RawSheet.{RawSheet}
+use Rattle.raw_records.specs.declared.RawForecast.{RawForecast}
 
 -- an entry; `there` is 0 beside an entry of zeros where the table has none
 abbrev pub rawEntry : EntryAt → RawEntry
@@ -34,6 +38,10 @@ rawRange (R.Refused why) = record { start = 0; len = 0; refused = why }
 abbrev pub rawSheet : Sheet → RawSheet
 rawSheet (S.Made k) = record { written = k; refused = 0 }
 rawSheet (S.Refused why) = record { written = 0; refused = why }
+
+abbrev pub rawForecast : Foreseen → RawForecast
+rawForecast (F.Needs regions bytes reads) = record { regions = regions; bytes = bytes; reads = reads; refused = 0 }
+rawForecast (F.Refused why) = record { regions = 0; bytes = 0; reads = 0; refused = why }
 
 abbrev pub checkedNumber : Checked → ℕ
 checkedNumber C.Good = 0

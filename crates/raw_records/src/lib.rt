@@ -1,12 +1,13 @@
-// A table entry, an image range, a check, a built packet and a region sheet's answer as plain numbers: what crosses to C and Rust.
+// A table entry, an image range, a check, a built packet, a region sheet's answer and a forecast as plain numbers: what crosses to C and Rust.
 use build::Built;
 use bundle::Checked;
 use entry::EntryAt;
+use forecast::Foreseen;
 use image::ImageRange;
 use sheet::Sheet;
 ghost use mathlib.Core.Path.{_≡_};
 ghost use Rattle.base.specs.Choice.{pick};
-ghost use Rattle.raw_records.specs.Records.{rawEntry, rawRange, rawSheet, checkedNumber, builtNumber};
+ghost use Rattle.raw_records.specs.Records.{rawEntry, rawRange, rawSheet, rawForecast, checkedNumber, builtNumber};
 
 #[repr(C)]
 pub struct RawEntry {
@@ -28,6 +29,14 @@ pub struct RawRange {
 #[repr(C)]
 pub struct RawSheet {
     pub written: usize,
+    pub refused: u32,
+}
+
+#[repr(C)]
+pub struct RawForecast {
+    pub regions: u64,
+    pub bytes: u64,
+    pub reads: u64,
     pub refused: u32,
 }
 
@@ -80,6 +89,25 @@ pub fn raw_sheet(x: Sheet) -> RawSheet
         },
         Sheet::Refused(why) => RawSheet {
             written: 0,
+            refused: why as u32,
+        },
+    }
+}
+
+pub fn raw_forecast(x: Foreseen) -> RawForecast
+    ensures { λ r. ⌜ r ≡ rawForecast x ⌝ }
+{
+    match x {
+        Foreseen::Needs(regions, bytes, reads) => RawForecast {
+            regions: regions,
+            bytes: bytes,
+            reads: reads,
+            refused: 0,
+        },
+        Foreseen::Refused(why) => RawForecast {
+            regions: 0,
+            bytes: 0,
+            reads: 0,
             refused: why as u32,
         },
     }

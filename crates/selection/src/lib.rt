@@ -59,7 +59,7 @@ fn named(names: &[u8], n: usize, stem: &[u8]) -> bool
 }
 
 // Whether names select an entry: none by its preference, else by its stem.
-fn selects(names: &[u8], entry: RamdumpTable64) -> bool
+pub fn selects(names: &[u8], entry: RamdumpTable64) -> bool
     ensures { λ r. ⌜ r ≡ selectedBy (now (names .entry)) (entry .«save_pref») (entry .filename) ⌝ }
 {
     let n = u32_padded(names, 0) as usize;

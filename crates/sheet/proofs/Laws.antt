@@ -11,9 +11,9 @@ use lib.Seq.{sets, getD-take, getD-append-add}
 use Rattle.base.specs.Told.{Tells}
 use Rattle.base.proofs.Lists.{sets-append, sets-more, set-sets, sets-front}
 use Rattle.base.proofs.Telling.{tells}
-use Rattle.entry.specs.Entry.{entrySize, entriesIn, entryAt, entryIn}
+use Rattle.entry.specs.Entry.{entrySize, entriesIn, entryIn}
 use Rattle.entry.specs.declared.RamdumpTable64.{RamdumpTable64}
-use Rattle.entry.proofs.Laws.{entry-flag, entry-told, there-below, length-filename}
+use Rattle.entry.proofs.Laws.{there-below, length-filename}
 use Rattle.filename.specs.Filename.{before}
 use Rattle.filename.proofs.Laws.{length-before, take-before}
 use Rattle.sheet.specs.Sheet.{
@@ -127,11 +127,7 @@ line-stored e d at h =
 -- ---- lines, over the width
 
 module _ (f : ℕ) (t : List ℕ) where
-  -- an entry of the table is what is found there
-  pub entry-found : (i : ℕ) → i < entriesIn f (length t) → entryAt f t i .entry ≡ entryIn f t i
-  entry-found i h = entry-told f t i (entry-flag f t i ∙ there-below f t i ∙ lt-ltb i (length t / entrySize f) h)
-
-  -- it has a filename of 20 bytes
+  -- an entry of the table has a filename of 20 bytes
   pub name-20 : (i : ℕ) → i < entriesIn f (length t) → length (entryIn f t i .filename) ≡ 20
   name-20 i h = length-filename f t i (there-below f t i ∙ lt-ltb i (length t / entrySize f) h)
 

@@ -1,5 +1,5 @@
 -- From one step to a list of steps, once, over any machine, by induction on the list: the reports of a fair list are a beginning of what was due at
--- its start, and the whole of it once enough steps counted. Assumes nothing.
+-- its start, and the whole of it once enough steps counted; machines that stay related; and a list in two parts. Assumes nothing.
 use mathlib.Core.Path.{_≡_, refl, sym, ap, _∙_}
 use mathlib.Core.Bool.{Bool}
 use mathlib.Core.List.{List, [], _∷_, _++_, append-assoc, append-nil}
@@ -58,3 +58,25 @@ module _ {S S′ I : Type 0} (next : S → I → S) (next′ : S′ → I → S�
   fair-related Fair Fair′ same [] s s′ r f = tt
   fair-related Fair Fair′ same (i ∷ is) s s′ r f =
       (same s s′ i r (f .0), fair-related Fair Fair′ same is (next s i) (next′ s′ i) (kept s s′ i r) (f .1))
+
+  -- the states after the list are related too
+  pub final-related : (is : List I) (s : S) (s′ : S′) → R s s′ → R (final next s is) (final next′ s′ is)
+  final-related [] s s′ r = r
+  final-related (i ∷ is) s s′ r = final-related is (next s i) (next′ s′ i) (kept s s′ i r)
+
+-- A list in two parts: the second begins where the first ends
+module _ {S I : Type 0} (next : S → I → S) where
+  pub outs-append : {R : Type 0} (out : S → I → List R) (is js : List I) (s : S)
+      → outs next out s (is ++ js) ≡ outs next out s is ++ outs next out (final next s is) js
+  outs-append out [] js s = refl
+  outs-append {R} out (i ∷ is) js s =
+      ap (λ (l : List R). out s i ++ l) (outs-append out is js (next s i))
+      ∙ sym (append-assoc (out s i) (outs next out (next s i) is) (outs next out (final next s (i ∷ is)) js))
+
+  pub throughout-first : (P : S → I → Type 0) (is js : List I) (s : S) → Throughout next P s (is ++ js) → Throughout next P s is
+  throughout-first P [] js s h = tt
+  throughout-first P (i ∷ is) js s h = (h .0, throughout-first P is js (next s i) (h .1))
+
+  pub throughout-second : (P : S → I → Type 0) (is js : List I) (s : S) → Throughout next P s (is ++ js) → Throughout next P (final next s is) js
+  throughout-second P [] js s h = h
+  throughout-second P (i ∷ is) js s h = throughout-second P is js (next s i) (h .1)

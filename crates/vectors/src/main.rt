@@ -1,6 +1,7 @@
 // Runs the leaf operations on cases from standard input, a line each, and writes what each gives. A case is a letter and words:
 // bytes in hexadecimal (`-` for none) and numbers in hexadecimal. A line that starts with `#` is written again.
 mod bundles;
+mod forecasts;
 mod packets;
 mod regions;
 mod show;
@@ -29,6 +30,8 @@ fn region_case(letter: u8, line: &[u8]) {
         b'x' => regions::selected(line),
         b'y' => regions::next(line),
         b'r' => regions::sheet(line),
+        b'f' => forecasts::of_table(line),
+        b'g' => forecasts::of_list(line),
         _ => show::nothing(),
     }
 }
@@ -50,7 +53,7 @@ fn cases(s: &[u8]) {
 }
 
 fn main() {
-    let mut input = [0u8; 393216];
+    let mut input = [0u8; 524288];
     let n = io::read_full(0, &mut input);
     cases(&input[..n]);
 }

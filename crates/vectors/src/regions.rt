@@ -74,7 +74,7 @@ fn entry(e: RamdumpTable64) {
 }
 
 // The width of a table's numbers, in bits.
-fn width(line: &[u8]) -> Width {
+pub(crate) fn width(line: &[u8]) -> Width {
     if text::number(line, 1) == 32 {
         return Width::Bits32;
     }

@@ -4,6 +4,8 @@ use bundle::check_images;
 use bundle::check_names;
 use entry::entry_at;
 use entry::no_entry;
+use field::Width;
+use forecast::forecast_table;
 use image::ImageId;
 use image::image_range;
 use packet::sahara_parse_packet;
@@ -12,6 +14,7 @@ use raw::RawSession;
 use raw::RawStepped;
 use raw_packet::RawPacket;
 use raw_records::RawEntry;
+use raw_records::RawForecast;
 use raw_records::RawRange;
 use raw_records::RawSheet;
 use sheet::Sheet;
@@ -23,9 +26,9 @@ ghost use Rattle.image.specs.Image.{rangeOf};
 ghost use Rattle.packet.specs.Packet.{decodeOf};
 ghost use Rattle.raw.specs.Raw.{isSession, openedRaw, steppedAt, toldIn};
 ghost use Rattle.raw_packet.specs.RawPacket.{rawPacket};
-ghost use Rattle.raw_records.specs.Records.{rawEntry, rawRange, checkedNumber};
+ghost use Rattle.raw_records.specs.Records.{rawEntry, rawRange, rawForecast, checkedNumber};
 ghost use Rattle.raw_step.specs.RawStep.{rawOutcome, stepRaw, rawAt, waitsAt, closedRaw, wantedRaw};
-ghost use Rattle.worgesli.specs.Worgesli.{entryRaw, nextRaw, pageOutcome, crossed, sheetRaw, resetOutcome, resetRaw};
+ghost use Rattle.worgesli.specs.Worgesli.{entryRaw, nextRaw, pageOutcome, crossed, sheetRaw, forecastRaw, resetOutcome, resetRaw};
 
 // The number of this interface: another where a struct or a function of it is another.
 #[no_mangle]
@@ -224,6 +227,17 @@ pub extern "C" fn worgesli_region_sheet(table: &[u8], width: u64, page: &mut [u8
         return raw_records::raw_sheet(Sheet::Made(0));
     }
     raw_records::raw_sheet(region_sheet(table, raw::width_of(width), page))
+}
+
+// How large the fetch of a table of a width of 32 or 64 bits will be, with these names. Of any other width there is no entry.
+#[no_mangle]
+pub extern "C" fn worgesli_forecast_table(table: &[u8], width: u64, names: &[u8]) -> RawForecast
+    ensures { λ r. ⌜ r ≡ rawForecast (forecastRaw (now (table .entry)) width (now (names .entry))) ⌝ }
+{
+    if !raw::is_width(width) {
+        return raw_records::raw_forecast(forecast_table(&table[..0], Width::Bits64, names));
+    }
+    raw_records::raw_forecast(forecast_table(table, raw::width_of(width), names))
 }
 
 // Whether the bytes are UTF-8.

@@ -11,8 +11,9 @@ use Rattle.field.specs.Field.{fieldSize}
 use Rattle.entry.specs.Entry.{entryIn}
 use Rattle.entry.specs.declared.EntryAt.{EntryAt}
 use Rattle.entry.specs.declared.RamdumpTable64.{RamdumpTable64}
+use Rattle.entry.proofs.Laws.{entry-found}
 use Rattle.sheet.specs.Sheet.{lineOf, linesOf}
-use Rattle.sheet.proofs.Laws.{entry-found, lines-more}
+use Rattle.sheet.proofs.Laws.{lines-more}
 use borrow.Author.Needs.{needs}
 use Rattle.sheet.proofs.put_lines.Statement.{statement}
 use Rattle.sheet.proofs.put_lines.Tie as tie

@@ -1,0 +1,59 @@
+-- Counts of reports, and the forecast's sums by places in a table: the selected entries are those that the plain host chooses. By induction. Assumes nothing.
+use mathlib.Core.Path.{_≡_, refl, sym, ap, _∙_}
+use mathlib.Core.Bool.{Bool, true, false}
+use mathlib.Core.List.{List, [], _∷_, _++_, map}
+use Prim.Native.Nat.{ℕ, zero, suc, _+_}
+use native.Mathlib.Omega.{arith}
+use native.Mathlib.Nat.{add-assoc, zero-add}
+use lib.ListN.{length, length-map}
+use Rattle.base.proofs.Ranges.{by-test}
+use Rattle.entry.specs.Entry.{entryOf, entryIn, entriesFrom}
+use Rattle.entry.specs.declared.RamdumpTable64.{RamdumpTable64}
+use Rattle.selection.specs.Selection.{selected}
+use Rattle.verdict.specs.Opening.{chunksIn, chunkOf}
+use Rattle.verdict.specs.declared.Opening.{Opening}
+use Rattle.forecast.specs.Forecast.{isSelected, selectedOf, summed}
+use Rattle.steps.specs.Steps.{one}
+use Rattle.fetch.specs.Plain.{Report, byte, chosen}
+use Rattle.fetch.specs.Claim.{regionBytes, regionReads}
+use Rattle.fetch_forecast.specs.Claim.{isOpened, isByte, howMany}
+
+-- ---- counts of reports
+
+pub many-append : (p : Report → Bool) (l m : List Report) → howMany p (l ++ m) ≡ howMany p l + howMany p m
+unfolding howMany
+many-append p [] m = rw zero-add refl
+many-append p (r ∷ l) m = rw (many-append p l m, add-assoc) refl
+
+pub opened-bytes : (l : List ℕ) → howMany isOpened (map byte l) ≡ 0
+unfolding howMany
+opened-bytes [] = refl
+opened-bytes (b ∷ l) = rw (opened-bytes l) refl
+
+pub bytes-bytes : (l : List ℕ) → howMany isByte (map byte l) ≡ length l
+unfolding howMany
+bytes-bytes [] = refl
+bytes-bytes (b ∷ l) = rw (bytes-bytes l) (omega arith)
+
+-- ---- the entries of a table, f bytes a number, from i on
+
+module _ (f : ℕ) (names t : List ℕ) where
+  -- the selected ones are those at the places chosen
+  pub selected-chosen : (k i : ℕ) → selectedOf names (entriesFrom f t k i) ≡ map (entryIn f t) (chosen f names t k i)
+  unfolding selectedOf isSelected entriesFrom chosen selected
+  selected-chosen zero i = refl
+  selected-chosen (suc k) i =
+      by-test (isSelected names (entryIn f t i))
+      (λ e. rw (e, selected-chosen k (suc i)) refl)
+      (λ e. rw (e, selected-chosen k (suc i)) refl)
+
+-- their bytes and their memory reads
+pub summed-bytes : (f : ℕ) (t is : List ℕ) → summed (λ e. e .len) (map (entryIn f t) is) ≡ regionBytes f t is
+unfolding summed regionBytes
+summed-bytes f t [] = refl
+summed-bytes f t (i ∷ is) = rw (summed-bytes f t is) refl
+
+pub summed-reads : (f : ℕ) (u : Opening) (t is : List ℕ) → summed (λ e. chunksIn (chunkOf u) (e .len)) (map (entryIn f t) is) ≡ regionReads f u t is
+unfolding summed regionReads
+summed-reads f u t [] = refl
+summed-reads f u t (i ∷ is) = rw (summed-reads f u t is) refl

@@ -1,0 +1,156 @@
+-- The theorem is about something: a device of either width that is not true, since nothing is queued and it answers with bytes of its own; divided deliveries,
+-- and steps refused that are lent other names and another table. Its forecast, computed; the premises, met; what the list reports, computed; and so the claim.
+-- Assumes nothing.
+use mathlib.Core.Path.{_≡_, refl}
+use mathlib.Core.Logic.{inl, inr}
+use mathlib.Core.List.{List, [], _∷_, _++_, map}
+use Prim.Native.Nat.{ℕ, _*_}
+use lib.ListN.{take, drop, replicate}
+use Rattle.field.specs.Field.{le, leBytes, fieldSize}
+use Rattle.field.specs.declared.Width.{Width}
+use Rattle.field.specs.declared.Width.the-variants as WI
+use Rattle.bundle.specs.Bundle.{slotsGood, wellFormed, slotOf}
+use Rattle.entry.specs.Entry.{entrySize, entryIn, entriesFrom, entriesOf}
+use Rattle.entry.specs.declared.RamdumpTable64.{RamdumpTable64}
+use Rattle.filename.specs.Filename.{before, has, stemOf, openCheck, afterOpenCheck}
+use Rattle.utf8.specs.Utf8.{table, leads, afterFirst, goesOn}
+use Rattle.selection.specs.Selection.{low, namesFrom, same, member, selected, nextOf}
+use Rattle.command.specs.Command.{kinds, classOf}
+use Rattle.packet.specs.Packet.{kindOf, decodeOf}
+use Rattle.build.specs.Build.{fields, words, bytesOf}
+use Rattle.verdict.specs.Opening.{chunkOf}
+use Rattle.verdict.specs.Verdict.{verdictOf}
+use Rattle.verdict.specs.declared.QdlBackend.the-variants as U
+use Rattle.forecast.specs.Forecast.{isSelected, selectedOf, summed, forecastOf}
+use Rattle.forecast.specs.declared.Foreseen.the-variants as F
+use Rattle.session.specs.PacketPhase.{wholeOf, sizedOf, packetOf}
+use Rattle.session.specs.FillingPhase.{tableOf}
+use Rattle.session.specs.BetweenPhase.{betweenOf}
+use Rattle.session.specs.RegionPhase.{nextChunk, askOf, handOf, regionOf}
+use Rattle.session.specs.Limits.{limitOf}
+use Rattle.session.specs.Step.{stepOf}
+use Rattle.steps.specs.Steps.{final, Throughout}
+use Rattle.fetch.specs.Plain.{Report, sent, opened, byte, closed, finished, Setting}
+use Rattle.fetch.specs.Device.{definitions, own, other, another, Lent, served, start, next}
+use Rattle.fetch.specs.Claim.{reports}
+use Rattle.fetch.proofs.Example.{debugBytes, readBytes, entryBytes, on}
+use Rattle.fetch_forecast.specs.Claim.{howMany, Decodes, Lends, Comes}
+use Rattle.fetch_forecast.proofs.Theorem.{foretold}
+
+-- "OCIMEM", lowered "ocimem", and ".BIN"
+abbrev ocimem : List ℕ
+ocimem = 0x4F ∷ 0x43 ∷ 0x49 ∷ 0x4D ∷ 0x45 ∷ 0x4D ∷ []
+
+abbrev bin : List ℕ
+bin = 0x2E ∷ 0x42 ∷ 0x49 ∷ 0x4E ∷ []
+
+-- a region of 5 bytes; one that is preferred, and that the name does not select; one of no byte. Behind them 3 bytes that are no entry
+abbrev tableBytes : Width → List ℕ
+tableBytes v = entryBytes v 0 1000 5 (ocimem ++ bin) ++ (entryBytes v 1 2000 7 bin ++ (entryBytes v 0 3000 0 (ocimem ++ bin) ++ (1 ∷ 2 ∷ 3 ∷ [])))
+
+-- 3 * 52 + 3, 3 * 64 + 3
+abbrev tableSize : Width → ℕ
+tableSize WI.Bits32 = 159
+tableSize WI.Bits64 = 195
+
+-- no image; the name "ocimem"; a table buffer that is longer than the table; nothing is queued
+abbrev board : Width → Setting
+board v =
+    record {
+      opening = on U.Usb;
+      set = replicate 8 0;
+      names = words (1 ∷ 6 ∷ 0 ∷ 6 ∷ []) ++ map low ocimem;
+      table = replicate 200 0;
+      reply = [];
+      out = replicate 48 0;
+      bytes = [];
+      mem = λ a. 0;
+    }
+
+-- lent the run's own things, and these bytes
+abbrev given : List ℕ → Lent
+given d = record { delivery = another d; set = own; names = own; table = own; reply = own; out = own }
+
+-- the memory debug in two parts, the table in three
+abbrev first-steps : Width → List Lent
+first-steps v =
+    given (take 5 (debugBytes v 0 (tableSize v)))
+    ∷ given (drop 5 (debugBytes v 0 (tableSize v)))
+    ∷ given (take 50 (tableBytes v))
+    ∷ record { delivery = another (1 ∷ []); set = own; names = other (9 ∷ []); table = own; reply = own; out = own }
+    ∷ given (take 100 (drop 50 (tableBytes v)))
+    ∷ given (drop 150 (tableBytes v))
+    ∷ []
+
+-- open; its read; 3 bytes; 2 of 4; close; another table buffer, too short, is refused (18); open, close; finished (3); a step behind the end is refused (4)
+abbrev last-steps : List Lent
+last-steps =
+    given []
+    ∷ given []
+    ∷ given (7 ∷ 8 ∷ 9 ∷ [])
+    ∷ given (7 ∷ 8 ∷ 9 ∷ 10 ∷ [])
+    ∷ given []
+    ∷ record { delivery = another []; set = own; names = other (replicate 8 0); table = other []; reply = own; out = own }
+    ∷ given []
+    ∷ given []
+    ∷ given []
+    ∷ record { delivery = another []; set = own; names = other (replicate 8 0); table = other []; reply = own; out = own }
+    ∷ []
+
+abbrev told : Width → List Report
+told v =
+    sent (readBytes v 0 (tableSize v))
+    ∷ opened 0
+    ∷ sent (readBytes v 1000 5)
+    ∷ byte 7
+    ∷ byte 8
+    ∷ byte 9
+    ∷ byte 7
+    ∷ byte 8
+    ∷ closed 0
+    ∷ opened 2
+    ∷ closed 2
+    ∷ []
+
+-- ---- each premise, computed
+
+abbrev entries : Width → List RamdumpTable64
+entries v = entryIn (fieldSize v) (tableBytes v) 0 ∷ entryIn (fieldSize v) (tableBytes v) 1 ∷ entryIn (fieldSize v) (tableBytes v) 2 ∷ []
+
+fit : (v : Width) → Throughout (next definitions (board v)) (Lends definitions (board v)) (start definitions (board v)) (first-steps v ++ last-steps)
+unfolding stepOf limitOf packetOf sizedOf wholeOf tableOf betweenOf nextChunk askOf handOf regionOf chunkOf openCheck afterOpenCheck
+    nextOf served wellFormed slotsGood slotOf verdictOf decodeOf classOf kinds kindOf bytesOf selected stemOf before low namesFrom
+    same member has goesOn leads afterFirst table fields le leBytes
+fit WI.Bits32 = (inr (tt, tt), (inr (tt, tt), (inr (tt, tt), (inl tt, (inr (tt, tt), (inr (tt, tt), (inr (tt, tt), (inr (tt, tt), (inr (tt, tt), (inr (tt, tt), (inr (tt, tt), (inl tt, (inr (tt, tt), (inr (tt, tt), (inr (tt, tt), (inl tt, tt))))))))))))))))
+fit WI.Bits64 = (inr (tt, tt), (inr (tt, tt), (inr (tt, tt), (inl tt, (inr (tt, tt), (inr (tt, tt), (inr (tt, tt), (inr (tt, tt), (inr (tt, tt), (inr (tt, tt), (inr (tt, tt), (inl tt, (inr (tt, tt), (inr (tt, tt), (inr (tt, tt), (inl tt, tt))))))))))))))))
+
+decoded : (v : Width) → (let w = final (next definitions (board v)) (start definitions (board v)) (first-steps v) in
+    Decodes (w .state) (w .table) (entries v))
+unfolding stepOf limitOf packetOf sizedOf wholeOf tableOf betweenOf nextChunk askOf handOf regionOf chunkOf openCheck afterOpenCheck
+    nextOf served wellFormed slotsGood slotOf verdictOf decodeOf classOf kinds kindOf bytesOf selected stemOf before low namesFrom
+    same member has goesOn leads afterFirst table fields le leBytes entriesFrom
+decoded WI.Bits32 = refl
+decoded WI.Bits64 = refl
+
+-- two regions, 5 bytes, two memory reads
+forecast : (v : Width) → forecastOf (chunkOf (board v .opening)) (entries v) (board v .names) ≡ F.Needs 2 5 2
+unfolding forecastOf isSelected selectedOf summed chunkOf wellFormed slotsGood slotOf stemOf before low namesFrom same member has goesOn leads afterFirst table fields le leBytes
+forecast WI.Bits32 = refl
+forecast WI.Bits64 = refl
+
+reported : (v : Width) → reports definitions (board v) (start definitions (board v)) (first-steps v ++ last-steps) ≡ told v ++ (finished 3 2 ∷ [])
+unfolding stepOf limitOf packetOf sizedOf wholeOf tableOf betweenOf nextChunk askOf handOf regionOf chunkOf openCheck afterOpenCheck
+    nextOf served wellFormed slotsGood slotOf verdictOf decodeOf classOf kinds kindOf bytesOf selected stemOf before low namesFrom
+    same member has goesOn leads afterFirst table fields le leBytes
+reported WI.Bits32 = refl
+reported WI.Bits64 = refl
+
+-- ---- so the claim
+
+claimed : (v : Width) → Comes 2 5 2 2 (reports definitions (board v) (start definitions (board v)) (first-steps v ++ last-steps))
+claimed v = foretold (board v) (first-steps v) last-steps (fit v) (entries v) (decoded v) 2 5 2 (forecast v) (told v) [] 2 (reported v)
+
+-- as the report itself says
+counted : (v : Width) → Comes 2 5 2 2 (told v ++ (finished 3 2 ∷ []))
+unfolding howMany
+counted v = record { regions-are = refl; bytes-are = refl; reads-are = refl }

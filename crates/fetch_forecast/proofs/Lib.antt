@@ -1,0 +1,7 @@
+-- In the order of reading: what is counted (Counting), one step (Step), the theorem (Theorem), through the C interface (Raw), and that it is about something
+-- (Example).
+pub mod Counting
+pub mod Step
+pub mod Theorem
+pub mod Raw
+pub mod Example

@@ -1,0 +1,3 @@
+pub mod While
+pub mod Laws
+pub mod Telling
