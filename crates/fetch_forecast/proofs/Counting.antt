@@ -1,19 +1,17 @@
 -- Counts of reports, and the forecast's sums by places in a table: the selected entries are those that the plain host chooses. By induction. Assumes nothing.
-use mathlib.Core.Path.{_≡_, refl, sym, ap, _∙_}
-use mathlib.Core.Bool.{Bool, true, false}
+use mathlib.Core.Path.{_≡_, refl}
+use mathlib.Core.Bool.{Bool}
 use mathlib.Core.List.{List, [], _∷_, _++_, map}
 use Prim.Native.Nat.{ℕ, zero, suc, _+_}
 use native.Mathlib.Omega.{arith}
 use native.Mathlib.Nat.{add-assoc, zero-add}
-use lib.ListN.{length, length-map}
+use lib.ListN.{length}
 use Rattle.base.proofs.Ranges.{by-test}
-use Rattle.entry.specs.Entry.{entryOf, entryIn, entriesFrom}
-use Rattle.entry.specs.declared.RamdumpTable64.{RamdumpTable64}
+use Rattle.entry.specs.Entry.{entryIn, entriesFrom}
 use Rattle.selection.specs.Selection.{selected}
 use Rattle.verdict.specs.Opening.{chunksIn, chunkOf}
 use Rattle.verdict.specs.declared.Opening.{Opening}
 use Rattle.forecast.specs.Forecast.{isSelected, selectedOf, summed}
-use Rattle.steps.specs.Steps.{one}
 use Rattle.fetch.specs.Plain.{Report, byte, chosen}
 use Rattle.fetch.specs.Claim.{regionBytes, regionReads}
 use Rattle.fetch_forecast.specs.Claim.{isOpened, isByte, howMany}

@@ -4,13 +4,13 @@
 use mathlib.Core.Path.{_≡_, refl}
 use mathlib.Core.Logic.{inl, inr}
 use mathlib.Core.List.{List, [], _∷_, _++_, map}
-use Prim.Native.Nat.{ℕ, _*_}
+use Prim.Native.Nat.{ℕ}
 use lib.ListN.{take, drop, replicate}
 use Rattle.field.specs.Field.{le, leBytes, fieldSize}
 use Rattle.field.specs.declared.Width.{Width}
 use Rattle.field.specs.declared.Width.the-variants as WI
 use Rattle.bundle.specs.Bundle.{slotsGood, wellFormed, slotOf}
-use Rattle.entry.specs.Entry.{entrySize, entryIn, entriesFrom, entriesOf}
+use Rattle.entry.specs.Entry.{entryIn, entriesFrom}
 use Rattle.entry.specs.declared.RamdumpTable64.{RamdumpTable64}
 use Rattle.filename.specs.Filename.{before, has, stemOf, openCheck, afterOpenCheck}
 use Rattle.utf8.specs.Utf8.{table, leads, afterFirst, goesOn}

@@ -1,5 +1,5 @@
 -- The theorem goes over from one host to another that gives the same, and so to the C interface, for every choice of calls. Assumes nothing.
-use mathlib.Core.Path.{_≡_, sym, ap, subst, _∙_}
+use mathlib.Core.Path.{sym, ap, subst, _∙_}
 use mathlib.Core.List.{List, _++_}
 use Prim.Native.Nat.{ℕ}
 use Rattle.entry.specs.declared.RamdumpTable64.{RamdumpTable64}
@@ -9,10 +9,9 @@ use Rattle.raw.specs.Raw.{sessionOf}
 use Rattle.raw.proofs.Laws.{session-back}
 use Rattle.steps.specs.Steps.{final}
 use Rattle.steps.proofs.Steps.{final-related, fair-related}
-use Rattle.fetch.specs.Plain.{Setting}
 use Rattle.fetch.specs.Device.{Host, definitions, Lent, World, start, next}
 use Rattle.fetch.proofs.Simulation.{Alike, Both, both-start, both-made, both-kept, same-reports}
-use Rattle.fetch_raw.specs.Calls.{Call, Called, calling}
+use Rattle.fetch_raw.specs.Calls.{Call, calling}
 use Rattle.fetch_raw.proofs.Theorem.{Numbers, opened-alike, call-alike}
 use Rattle.fetch_forecast.specs.Claim.{Decodes, Lends, Foretells}
 use Rattle.fetch_forecast.specs.Raw.{DecodesRaw}

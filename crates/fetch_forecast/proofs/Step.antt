@@ -36,14 +36,14 @@ use Rattle.session.specs.declared.Phase.the-variants as P
 use Rattle.session.specs.declared.Session.{Session}
 use Rattle.session.specs.declared.Answer.{Answer}
 use Rattle.session.specs.declared.Answer.the-variants as A
-use Rattle.session.specs.Outcome.{inPhase, ended, region, Outcome, outcome, gives, isEnded}
+use Rattle.session.specs.Outcome.{ended, Outcome, outcome, gives, isEnded}
 use Rattle.session.specs.PacketPhase.{keep, acted, wholeOf, sizedOf, packetOf}
 use Rattle.session.specs.FillingPhase.{responseOf, switchedOf, tableOf}
 use Rattle.session.specs.BetweenPhase.{openOf, betweenOf}
 use Rattle.session.specs.RegionPhase.{pastEnd, nameIn, asksFor, nextChunk, begunOf, askOf, handOf, regionOf}
 use Rattle.session.specs.Limits.{readsLimit, phaseLimit, limitOf}
 use Rattle.session.specs.Step.{onPhase, stepOf}
-use Rattle.fetch.specs.Plain.{Report, opened, chunkCount, chosen}
+use Rattle.fetch.specs.Plain.{chunkCount, chosen}
 use Rattle.fetch.specs.Device.{reportsFor}
 use Rattle.fetch.specs.Claim.{regionBytes, regionReads}
 use Rattle.fetch.proofs.Between.{Hit, hit, miss, entry-same}

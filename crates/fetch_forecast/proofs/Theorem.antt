@@ -2,11 +2,11 @@
 -- the list over the invariant of one step. Assumes nothing.
 use mathlib.Core.Path.{_≡_, refl, sym, ap, subst, _∙_}
 use mathlib.Core.Logic.{⊎-elim, _⊎_, inl, inr}
-use mathlib.Core.Bool.{Bool, true, false}
+use mathlib.Core.Bool.{true, false}
 use mathlib.Core.List.{List, [], _∷_, _++_, map}
 use Prim.Native.Nat.{ℕ, _+_}
 use native.Mathlib.Omega.{arith}
-use native.Mathlib.Nat.{add-zero, add-assoc, zero-add}
+use native.Mathlib.Nat.{add-zero, add-assoc}
 use lib.Dec.{T}
 use lib.ListN.{take}
 use Rattle.base.proofs.Tests.{differ, holds}
@@ -27,7 +27,7 @@ use Rattle.fetch.specs.Plain.{Report, byte, finished, Setting}
 use Rattle.fetch.specs.Device.{definitions, Thing, own, other, isOwn, Lent, lent, delivered, kept, reportsFor, World, start, made, next, reported}
 use Rattle.fetch.specs.Claim.{reports}
 use Rattle.fetch.proofs.Counter.{isEnd, turned-over, all-over, Calm}
-use Rattle.fetch_forecast.specs.Claim.{isOpened, isByte, howMany, decodesIn, Decodes, Lends, Comes, Foretells}
+use Rattle.fetch_forecast.specs.Claim.{isOpened, isByte, howMany, decodesIn, Decodes, Lends, Foretells}
 use Rattle.fetch_forecast.proofs.Counting.{many-append}
 use Rattle.fetch_forecast.proofs.Step.{Kept, calm, Done, Goes, step-goes}
 

@@ -1,5 +1,5 @@
 -- Laws of the forecast: what an answer that is no refusal tells, and that the sums of the functions come to the definition's. Assumes nothing.
-use mathlib.Core.Path.{_≡_, refl, sym, ap, _∙_}
+use mathlib.Core.Path.{_≡_, refl, sym, _∙_}
 use mathlib.Core.Bool.{true, false, not, _||_}
 use mathlib.Core.List.{List, [], _∷_}
 use Prim.Native.Nat.{ℕ, suc, _+_, _-_, _%_, _^_, _≤_, _<_}
@@ -7,7 +7,7 @@ use native.Mathlib.Numerals.{add-one}
 use native.Mathlib.Omega.{arith}
 use native.Mathlib.Nat.{add-zero, zero-add, add-assoc, mod-eq-of-lt}
 use borrow.Author.Tests.{lt-ltb, ltb-true}
-use lib.Dec.{ltb, eqb}
+use lib.Dec.{eqb}
 use lib.ListN.{length}
 use Rattle.base.specs.Choice.{pick}
 use Rattle.base.proofs.Ranges.{by-test, by-else}
@@ -94,7 +94,7 @@ module _ (c : ℕ) (names : List ℕ) where
       rw (i, j, m, g, ← add-assoc b, ← add-assoc r) (f i j)))
 
   -- one entry of a list, selected or not
-  module _ (e : RamdumpTable64) (es : List RamdumpTable64) (s : Sums) (h : s .refused ≡ 0) where
+  module _ (e : RamdumpTable64) (es : List RamdumpTable64) where
     selected-yes : isSelected names e ≡ true → selectedOf names (e ∷ es) ≡ e ∷ selectedOf names es
     unfolding selectedOf
     selected-yes i = rw i refl
@@ -103,13 +103,13 @@ module _ (c : ℕ) (names : List ℕ) where
     unfolding selectedOf
     selected-no i = rw i refl
 
-    add-yes : isSelected names e ≡ true → addAll c names s (e ∷ es) ≡ addAll c names (moreOf c s (e .len)) es
+    add-yes : (n b r : ℕ) → isSelected names e ≡ true → addAll c names (sums n b r) (e ∷ es) ≡ addAll c names (moreOf c (sums n b r) (e .len)) es
     unfolding addAll
-    add-yes i = rw (h, i) refl
+    add-yes n b r i = rw i refl
 
-    add-no : isSelected names e ≡ false → addAll c names s (e ∷ es) ≡ addAll c names s es
+    add-no : (n b r : ℕ) → isSelected names e ≡ false → addAll c names (sums n b r) (e ∷ es) ≡ addAll c names (sums n b r) es
     unfolding addAll
-    add-no i = rw (h, i) refl
+    add-no n b r i = rw i refl
 
   add-none : (s : Sums) → addAll c names s [] ≡ s
   unfolding addAll
@@ -125,9 +125,9 @@ module _ (c : ℕ) (names : List ℕ) where
   total (e ∷ es) n b r h x y =
       by-test (isSelected names e)
       (λ i.
-      rw (add-yes e es (sums n b r) refl i, selected-yes e es (sums n b r) refl i)
+      rw (add-yes e es n b r i, selected-yes e es i)
       (one-more es n b r (e .len) (chunksIn c (e .len)) (omega arith) (λ j l. total es (n + 1) (b + e .len) (r + chunksIn c (e .len)) (omega arith) j l)))
-      (λ i. rw (add-no e es (sums n b r) refl i, selected-no e es (sums n b r) refl i) (total es n b r (omega arith) x y))
+      (λ i. rw (add-no e es n b r i, selected-no e es i) (total es n b r (omega arith) x y))
 
   -- the sums of a list that is lent come to its forecast
   pub sums-are : (es : List RamdumpTable64) → length es < 2 ^ 64 → answerOf (addAll c names (startOf names) es) ≡ forecastOf c es names

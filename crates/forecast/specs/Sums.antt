@@ -1,7 +1,7 @@
 -- The sums while a list is gone through: before the first entry, with one more, with a list more, and at the end. These are the words of the functions that
 -- `forecast` and `forecast_table` share; that they come to `forecastOf` is `sums-are` of proofs/Laws.
 use Prim.Native.Nat.{ℕ, _+_, _%_, _^_}
-use mathlib.Core.Bool.{false, not}
+use mathlib.Core.Bool.{false}
 use mathlib.Core.List.{List, [], _∷_}
 use lib.Dec.{eqb}
 use Rattle.base.specs.Choice.{pick}

@@ -3,8 +3,6 @@ use mathlib.Core.Path.{_≡_, sym, _∙_}
 use mathlib.Core.Bool.{true, false}
 use denote.Ref.{now}
 use Rattle.forecast.specs.Forecast.{isSelected}
-use Prim.Native.Nat.{ℕ}
-use native.Mathlib.Omega.{arith}
 use borrow.Author.Tests.{ne-eqb, not-true, not-false}
 use borrow.Author.Needs.{needs}
 use Rattle.forecast.proofs.add.Statement.{statement}
@@ -19,7 +17,8 @@ selects-requires c κs = search needs
 returns-2 : tie.Need-returns-2
 unfolding isSelected
 returns-2 c =
-    let e : isSelected (now (c .before .before .before .before .before .args .names)) (c .before .before .before .before .before .args .e) ≡ false = sym (c .before .selects .ensures) ∙ not-true _ (c .if2 .taken) in
+    let a = c .before .before .before .before .before .args in
+    let e : isSelected (now (a .names)) (a .e) ≡ false = sym (c .before .selects .ensures) ∙ not-true _ (c .if2 .taken) in
     simp (c .before .before .if1 .left, e)
 
 more-requires : tie.Need-more-requires

@@ -1,7 +1,4 @@
 -- `forecast::finish` meets its contract: refused, or the three numbers. Assumes nothing.
-use mathlib.Core.Path.{_≡_, refl}
-use Prim.Native.Nat.{ℕ}
-use native.Mathlib.Omega.{arith}
 use borrow.Author.Tests.{ne-eqb}
 use Rattle.forecast.proofs.finish.Statement.{statement}
 use Rattle.forecast.proofs.finish.Tie as tie

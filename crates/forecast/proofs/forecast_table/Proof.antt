@@ -1,8 +1,7 @@
 -- `forecast::forecast_table` meets its contract. The loop's invariant: the sums so far, with the entries from i on, come to the sums of them all. Assumes nothing.
 use mathlib.Core.Path.{_≡_, refl, sym, ap, _∙_}
 use mathlib.Core.List.{List}
-use Prim.Native.Nat.{ℕ, suc, _+_, _-_, _≤_, _<_, _^_}
-use native.Mathlib.Numerals.{add-one}
+use Prim.Native.Nat.{ℕ, suc, _+_, _-_, _≤_}
 use native.Mathlib.Omega.{arith}
 use native.Mathlib.Nat.{sub-zero}
 use denote.Ref.{now}
@@ -10,7 +9,6 @@ use lib.ListN.{length}
 use Rattle.field.specs.Field.{fieldSize}
 use Rattle.entry.specs.Entry.{entriesIn, entryIn, entriesFrom, entriesOf}
 use Rattle.entry.specs.declared.EntryAt.{EntryAt}
-use Rattle.entry.specs.declared.RamdumpTable64.{RamdumpTable64}
 use Rattle.entry.proofs.Laws.{entry-found, length-entries}
 use Rattle.base.proofs.Telling.{tells}
 use Rattle.forecast.specs.Forecast.{forecastTold}

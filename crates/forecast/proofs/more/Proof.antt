@@ -1,6 +1,6 @@
 -- `forecast::more` meets its contract: each sum is tested before it is made. Assumes nothing.
-use mathlib.Core.Path.{_≡_, refl, _∙_}
-use Prim.Native.Nat.{ℕ, _+_, _-_, _^_, _≤_, _<_}
+use mathlib.Core.Path.{refl, _∙_}
+use Prim.Native.Nat.{_+_, _-_, _^_}
 use native.Mathlib.Omega.{arith}
 use borrow.Author.Tests.{lt-ltb, le-ltb}
 use borrow.Author.Needs.{needs}
@@ -29,9 +29,15 @@ refuse-requires-2 c κs = search needs
 
 returns-2 : tie.Need-returns-2
 returns-2 c =
-    let a = c .before .before .before .before .before .before .args in
-    let e = c .before .before .before .before .before .chunk-reads .ensures in
-    c .refuse2 .ensures ∙ rw (le-ltb (2 ^ 64 - 1) (a .s .bytes + a .len) (omega arith), ← e, lt-ltb (2 ^ 64 - 1) (a .s .reads + c .before .before .before .before .before .chunk-reads .result) (omega arith)) refl
+    let r = c .before .before .before .before .before in
+    let a = r .before .args in
+    c .refuse2 .ensures
+    ∙ rw (
+      le-ltb (2 ^ 64 - 1) (a .s .bytes + a .len) (omega arith),
+      ← r .chunk-reads .ensures,
+      lt-ltb (2 ^ 64 - 1) (a .s .reads + r .chunk-reads .result) (omega arith),
+    )
+    refl
 
 wrapping-add-u64-requires : tie.Need-wrapping-add-u64-requires
 wrapping-add-u64-requires c κs = search needs
@@ -44,9 +50,14 @@ add-t7 c = search needs
 
 returns-3 : tie.Need-returns-3
 returns-3 c =
-    let a = c .before .before .before .before .before .before .before .before .args in
-    let e = c .before .before .before .before .before .before .before .chunk-reads .ensures in
-    rw (le-ltb (2 ^ 64 - 1) (a .s .bytes + a .len) (omega arith), ← e, le-ltb (2 ^ 64 - 1) (a .s .reads + c .before .before .before .before .before .before .before .chunk-reads .result) (omega arith)) cc
+    let r = c .before .before .before .before .before .before .before in
+    let a = r .before .args in
+    rw (
+      le-ltb (2 ^ 64 - 1) (a .s .bytes + a .len) (omega arith),
+      ← r .chunk-reads .ensures,
+      le-ltb (2 ^ 64 - 1) (a .s .reads + r .chunk-reads .result) (omega arith),
+    )
+    cc
 
 pub more-spec : {M : Type 1} → statement M
 more-spec =
