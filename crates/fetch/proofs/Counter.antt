@@ -40,11 +40,11 @@ use Rattle.steps.specs.Steps.{one, final}
 use Rattle.fetch.specs.Plain.{Report, sent, image, opened, byte, emptyRead, closed, finished, Setting}
 use Rattle.fetch.specs.Device.{definitions, Lent, lent, delivered, World, start, next, reported}
 use Rattle.fetch.specs.Claim.{reports}
-use Rattle.fetch.specs.Meaning.{readIn, readsIn}
+use Rattle.fetch.specs.Meaning.{readIn, howMany, readsIn}
 use Rattle.base.proofs.Tests.{split, differ}
 use Rattle.fetch.proofs.Ghost.{toldBy}
 use Rattle.build.proofs.Laws.{take-front}
-use Rattle.fetch.proofs.Sent.{asks, asks-read, reads-append, reads-bytes}
+use Rattle.fetch.proofs.Sent.{asks, asks-read, many-append, reads-bytes}
 use Rattle.fetch.proofs.Verdict.{Sane, sane}
 
 -- ---- what a list of reports tells, k memory reads having been sent before it: an end carries those sent before it, and comes last
@@ -78,7 +78,7 @@ hasEnd (r ∷ l) = isEnd r || hasEnd l
 
 -- where the one has an end the other is empty
 told-append : (l m : List Report) (k : ℕ) → Tally k l → Tally (k + readsIn l) m → (hasEnd l ≡ true → m ≡ []) → Tally k (l ++ m)
-unfolding readsIn
+unfolding howMany
 told-append [] m k f h g = rw add-zero at h
 told-append (x ∷ l) m k f h g =
     (first x (f .0) g, told-append l m (k + one (readIn x)) (f .1) (rw (sym (add-assoc k (one (readIn x)) (readsIn l))) at h) (later x g))
@@ -110,7 +110,7 @@ no-end [] = refl
 no-end (b ∷ l) = no-end l
 
 told-end : (l m : List Report) (k how r : ℕ) → Tally k (l ++ (finished how r ∷ m)) → (r ≡ k + readsIn l) × (m ≡ [])
-unfolding readsIn
+unfolding howMany
 told-end [] m k how r f = (f .0 .0 ∙ sym (add-zero k), f .0 .1)
 told-end (x ∷ l) m k how r f =
     let y = told-end l m (k + one (readIn x)) how r (f .1) in
@@ -145,27 +145,27 @@ module _ (s : Session) (d set : List ℕ) where
   -- nothing is reported
   silent : (z : Session) (n : ℕ) (a : Answer) (t y o : List ℕ) → z .reads ≡ s .reads → Calm z → toldBy (outcome (gives z n a) t y o) d set ≡ []
       → Counts (outcome (gives z n a) t y o)
-  unfolding readsIn
+  unfolding howMany
   silent z n a t y o e k h = record { reads = rw (h, add-zero) e; told = rw h tt; calm = k; ends = rw h (λ f. differ f) }
 
   -- one report that is no packet
   single : (x : Report) (z : Session) (n : ℕ) (a : Answer) (t y o : List ℕ) → z .reads ≡ s .reads → Calm z
       → toldBy (outcome (gives z n a) t y o) d set ≡ x ∷ [] → readIn x ≡ false → isEnd x ≡ false → endsAt (s .reads) x []
       → Counts (outcome (gives z n a) t y o)
-  unfolding readsIn
+  unfolding howMany
   single x z n a t y o e k h f i g =
       record { reads = rw (h, f) (e ∙ omega arith); told = rw h (g, tt); calm = k; ends = rw (h, i) (λ f. differ f) }
 
   -- the end
   ends-here : (how : ℕ) (z : Session) (n : ℕ) (t y o : List ℕ) → z .reads ≡ s .reads → isEnded (z .phase) ≡ true → Calm z
       → Counts (outcome (gives z n (A.Finished how (s .reads))) t y o)
-  unfolding readsIn
+  unfolding howMany
   ends-here how z n t y o e f k = record { reads = e ∙ omega arith; told = ((refl, refl), tt); calm = k; ends = λ i. f }
 
   -- a packet
   sends : (q : Request) (z : Session) (n : ℕ) (t y o : List ℕ) → z .reads ≡ s .reads + one (asks q) → Calm z
       → Counts (outcome (gives z n (A.Send (sizeOf q))) t y (front q o))
-  unfolding readsIn
+  unfolding howMany
   sends q z n t y o e k = record { reads = rw (take-front q o, asks-read q, add-zero) e; told = (tt, tt); calm = k; ends = λ f. differ f }
 
   -- ---- packet: no memory read was sent before
@@ -329,13 +329,13 @@ module _ (c : Setting) where
 
   counts-from : (ls : List Lent) (w : World Session) → Calm (w .state)
       → final after w ls .state .reads ≡ w .state .reads + readsIn (reports definitions c w ls)
-  unfolding readsIn
+  unfolding howMany
   counts-from [] w k = sym (add-zero (w .state .reads))
   counts-from (l ∷ ls) w k =
       let r = turned w l k in
       let rest : List Report = reports definitions c (after w l) ls in
       counts-from ls (after w l) (r .calm) ∙ ap (λ (n : ℕ). n + readsIn rest) (r .reads)
-      ∙ add-assoc (w .state .reads) (readsIn (says w l)) (readsIn rest) ∙ ap (λ (n : ℕ). w .state .reads + n) (sym (reads-append (says w l) rest))
+      ∙ add-assoc (w .state .reads) (readsIn (says w l)) (readsIn rest) ∙ ap (λ (n : ℕ). w .state .reads + n) (sym (many-append readIn (says w l) rest))
 
   pub turned-over : (w : World Session) (l : Lent) → Calm (w .state) → isEnded (w .state .phase) ≡ true
       → (after w l .state ≡ w .state) × (says w l ≡ [])
@@ -374,7 +374,7 @@ module _ (c : Setting) where
     -- so it carries the counter
     pub end-reads : (l m : List Report) (how r : ℕ) → all ≡ l ++ (finished how r ∷ m)
         → r ≡ final after (start definitions c) ls .state .reads
-    unfolding readsIn
+    unfolding howMany
     end-reads l m how r e =
         let y = end-counts l m how r e in
-        y .0 ∙ sym (counter ∙ ap readsIn e ∙ reads-append l (finished how r ∷ m) ∙ rw (y .1) (add-zero (readsIn l)))
+        y .0 ∙ sym (counter ∙ ap readsIn e ∙ many-append readIn l (finished how r ∷ m) ∙ rw (y .1) (add-zero (readsIn l)))

@@ -52,8 +52,8 @@ use Rattle.fetch.specs.Plain.{
   plain,
 }
 use Rattle.fetch.specs.Claim.{regionReads}
-use Rattle.fetch.specs.Meaning.{readsIn, shown, regionsIn, Meant}
-use Rattle.fetch.proofs.Sent.{asks, asks-read, reads-append, reads-bytes, reads-empty}
+use Rattle.fetch.specs.Meaning.{readIn, howMany, readsIn, shown, regionsIn, Meant}
+use Rattle.fetch.proofs.Sent.{asks, asks-read, many-append, reads-bytes, reads-empty}
 use Rattle.fetch.proofs.Device.{no-bytes, bytesAt-split}
 use Rattle.fetch.proofs.Chunk.{Chunk, chunk-good, chunk-some, count-none, count-step}
 use Rattle.fetch.proofs.Verdict.{sane}
@@ -91,12 +91,12 @@ module _ (v : Width) (u : Opening) (z : Chunk (chunkOf u)) (mem : ℕ → ℕ) w
       ∙ rw (shown-bytes (bytesAt mem at n), shown-empty t) (append-nil (map byte (bytesAt mem at n)))
 
   chunk-reads : (at n : ℕ) → readsIn (chunk v u mem at n) ≡ 1
-  unfolding readsIn
+  unfolding howMany
   chunk-reads at n =
       let t : Bool = emptyAfter u n in
       rw (
         asks-read (Q.MemRead v at n),
-        reads-append (map byte (bytesAt mem at n)) (emptyIf t),
+        many-append readIn (map byte (bytesAt mem at n)) (emptyIf t),
         reads-bytes (bytesAt mem at n),
         reads-empty t,
       )
@@ -122,7 +122,7 @@ module _ (v : Width) (u : Opening) (z : Chunk (chunkOf u)) (mem : ℕ → ℕ) w
       refl)
 
   chunks-reads : (f at l : ℕ) → l ≤ f → readsIn (chunks v u mem f at l) ≡ chunkCount u l
-  unfolding readsIn chunks
+  unfolding howMany chunks
   chunks-reads zero at l h = let i : l ≡ 0 = omega arith in rw i (sym (count-none u z))
   chunks-reads (suc f) at l h =
       by-test (eqb l 0) (λ e. let i : l ≡ 0 = eqb-true _ _ e in rw (e, i) (sym (count-none u z)))
@@ -130,7 +130,7 @@ module _ (v : Width) (u : Opening) (z : Chunk (chunkOf u)) (mem : ℕ → ℕ) w
       let n : ℕ = min (chunkOf u) l in
       let y : 0 < chunkOf u = chunk-some u z in
       let i : l ≡ 0 → ⊥ = eqb-false _ _ e in
-      rw (e, reads-append (chunk v u mem at n), chunk-reads at n, chunks-reads f (at + n) (l - n) (omega arith))
+      rw (e, many-append readIn (chunk v u mem at n), chunk-reads at n, chunks-reads f (at + n) (l - n) (omega arith))
       (omega (arith, count-step u z l (omega arith))))
 
 -- ---- the regions
@@ -155,13 +155,13 @@ module _ (v : Width) (u : Opening) (z : Chunk (chunkOf u)) (mem : ℕ → ℕ) (
       refl
 
   regions-reads : (is : List ℕ) (r : ℕ) → readsIn (regions v u mem t is r) ≡ regionReads f u t is
-  unfolding readsIn regions regionReads
+  unfolding howMany regions regionReads
   regions-reads [] r = refl
   regions-reads (i ∷ is) r =
       let e : List ℕ = entryOf f t i in
       let l : ℕ = lengthOf f e in
       rw (
-        reads-append (chunks v u mem l (baseOf f e) l),
+        many-append readIn (chunks v u mem l (baseOf f e) l),
         chunks-reads v u z mem l (baseOf f e) l (omega arith),
         regions-reads is (r + chunkCount u l),
       )
@@ -204,7 +204,7 @@ module _ (u : Opening) (set : List ℕ) (tsize rsize : ℕ) where
     heard-shown = heard (λ l. shown l ≡ []) refl (λ q l y e. e) (λ p l e. e) f s dbg r h
 
     heard-reads : readsIn (hear u set tsize rsize f s .said) ≡ 0
-    unfolding readsIn
+    unfolding howMany
     heard-reads = heard (λ l. readsIn l ≡ 0) refl (λ q l y z. rw (asks-read q, y, z) refl) (λ p l z. rw z refl) f s dbg r h
 
 -- ---- the whole report
@@ -212,7 +212,7 @@ module _ (u : Opening) (set : List ℕ) (tsize rsize : ℕ) where
 heard-meant : (c : Setting) (dbg : Debug) (tsize rsize f : ℕ) (s r : List ℕ)
     → hear (c .opening) (c .set) tsize rsize f s .ending ≡ Debugged dbg r
     → Meant c dbg (reportsOf (c .opening) (c .mem) (c .names) (hear (c .opening) (c .set) tsize rsize f s))
-unfolding reportsOf dump shown readsIn
+unfolding reportsOf dump shown howMany
 heard-meant c dbg tsize rsize f s r h =
     let u : Opening = c .opening in
     let z : Chunk (chunkOf u) = chunk-good u in
@@ -224,7 +224,7 @@ heard-meant c dbg tsize rsize f s r h =
       reads =
           rw (
             h,
-            reads-append said,
+            many-append readIn said,
             heard-reads u (c .set) tsize rsize f s dbg r h,
             asks-read (Q.MemRead (dbg .width) (dbg .address) (dbg .size)),
             regions-reads (dbg .width) u z (c .mem) t is 1,

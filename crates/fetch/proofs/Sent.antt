@@ -1,4 +1,4 @@
--- Packets that the host sends: which are memory reads, by the request; and the memory reads that a list of reports has, by induction on it.
+-- Packets that the host sends: which are memory reads, by the request; and how many reports of a list are so or so, by induction on it.
 -- Assumes nothing.
 use mathlib.Core.Path.{_≡_, refl}
 use mathlib.Core.Bool.{Bool, true, false}
@@ -14,7 +14,7 @@ use Rattle.build.specs.declared.Request.{Request}
 use Rattle.build.specs.declared.Request.the-variants as Q
 use Rattle.build.proofs.Laws.{size-most, length-front}
 use Rattle.fetch.specs.Plain.{Report, byte, isRead, emptyIf}
-use Rattle.fetch.specs.Meaning.{readsIn}
+use Rattle.fetch.specs.Meaning.{readIn, howMany, readsIn}
 
 -- the out buffer is as long as before
 pub length-out : (q : Request) (o : List ℕ) → 48 ≤ length o → length (front q o) ≡ length o
@@ -44,18 +44,21 @@ asks-read (Q.MemRead WI.Bits64 a k) = refl
 
 -- ---- in lists of reports
 
-pub reads-append : (l m : List Report) → readsIn (l ++ m) ≡ readsIn l + readsIn m
-unfolding readsIn
-reads-append [] m = rw zero-add refl
-reads-append (r ∷ l) m = rw (reads-append l m, add-assoc) refl
+pub many-append : (p : Report → Bool) (l m : List Report) → howMany p (l ++ m) ≡ howMany p l + howMany p m
+unfolding howMany
+many-append p [] m = rw zero-add refl
+many-append p (r ∷ l) m = rw (many-append p l m, add-assoc) refl
 
 -- bytes and empty reads are none
+pub none-of-bytes : (p : Report → Bool) → ((b : ℕ) → p (byte b) ≡ false) → (l : List ℕ) → howMany p (map byte l) ≡ 0
+unfolding howMany
+none-of-bytes p h [] = refl
+none-of-bytes p h (b ∷ l) = rw (h b, none-of-bytes p h l) refl
+
 pub reads-bytes : (l : List ℕ) → readsIn (map byte l) ≡ 0
-unfolding readsIn
-reads-bytes [] = refl
-reads-bytes (b ∷ l) = rw (reads-bytes l) refl
+reads-bytes l = none-of-bytes readIn (λ b. refl) l
 
 pub reads-empty : (b : Bool) → readsIn (emptyIf b) ≡ 0
-unfolding readsIn
+unfolding howMany
 reads-empty true = refl
 reads-empty false = refl

@@ -36,10 +36,14 @@ readIn emptyRead = false
 readIn (closed i) = false
 readIn (finished how r) = false
 
+-- the reports of which a test holds
+unfoldable pub howMany : (Report → Bool) → List Report → ℕ
+howMany p [] = 0
+howMany p (r ∷ l) = one (p r) + howMany p l
+
 -- the memory reads that were sent
-unfoldable pub readsIn : List Report → ℕ
-readsIn [] = 0
-readsIn (r ∷ l) = one (readIn r) + readsIn l
+abbrev pub readsIn : List Report → ℕ
+readsIn l = howMany readIn l
 
 -- a report without packets, image bytes and empty reads
 unfoldable pub shown : List Report → List Report

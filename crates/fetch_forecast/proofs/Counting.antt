@@ -1,10 +1,8 @@
 -- Counts of reports, and the forecast's sums by places in a table: the selected entries are those that the plain host chooses. By induction. Assumes nothing.
 use mathlib.Core.Path.{_≡_, refl}
-use mathlib.Core.Bool.{Bool}
-use mathlib.Core.List.{List, [], _∷_, _++_, map}
-use Prim.Native.Nat.{ℕ, zero, suc, _+_}
+use mathlib.Core.List.{List, [], _∷_, map}
+use Prim.Native.Nat.{ℕ, zero, suc}
 use native.Mathlib.Omega.{arith}
-use native.Mathlib.Nat.{add-assoc, zero-add}
 use lib.ListN.{length}
 use Rattle.base.proofs.Ranges.{by-test}
 use Rattle.entry.specs.Entry.{entryIn, entriesFrom}
@@ -12,21 +10,12 @@ use Rattle.selection.specs.Selection.{selected}
 use Rattle.verdict.specs.Opening.{chunksIn, chunkOf}
 use Rattle.verdict.specs.declared.Opening.{Opening}
 use Rattle.forecast.specs.Forecast.{isSelected, selectedOf, summed}
-use Rattle.fetch.specs.Plain.{Report, byte, chosen}
+use Rattle.fetch.specs.Plain.{byte, chosen}
 use Rattle.fetch.specs.Claim.{regionBytes, regionReads}
-use Rattle.fetch_forecast.specs.Claim.{isOpened, isByte, howMany}
+use Rattle.fetch.specs.Meaning.{howMany}
+use Rattle.fetch_forecast.specs.Claim.{isByte}
 
--- ---- counts of reports
-
-pub many-append : (p : Report → Bool) (l m : List Report) → howMany p (l ++ m) ≡ howMany p l + howMany p m
-unfolding howMany
-many-append p [] m = rw zero-add refl
-many-append p (r ∷ l) m = rw (many-append p l m, add-assoc) refl
-
-pub opened-bytes : (l : List ℕ) → howMany isOpened (map byte l) ≡ 0
-unfolding howMany
-opened-bytes [] = refl
-opened-bytes (b ∷ l) = rw (opened-bytes l) refl
+-- ---- bytes, each reported alone
 
 pub bytes-bytes : (l : List ℕ) → howMany isByte (map byte l) ≡ length l
 unfolding howMany

@@ -33,8 +33,9 @@ use Rattle.steps.specs.Steps.{final, Throughout}
 use Rattle.fetch.specs.Plain.{Report, sent, opened, byte, closed, finished, Setting}
 use Rattle.fetch.specs.Device.{definitions, own, other, another, Lent, served, start, next}
 use Rattle.fetch.specs.Claim.{reports}
+use Rattle.fetch.specs.Meaning.{howMany}
 use Rattle.fetch.proofs.Example.{debugBytes, readBytes, entryBytes, on}
-use Rattle.fetch_forecast.specs.Claim.{howMany, Decodes, Lends, Comes}
+use Rattle.fetch_forecast.specs.Claim.{Decodes, Lends, Comes}
 use Rattle.fetch_forecast.proofs.Theorem.{foretold}
 
 -- "OCIMEM", lowered "ocimem", and ".BIN"

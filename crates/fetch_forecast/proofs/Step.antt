@@ -46,13 +46,15 @@ use Rattle.session.specs.Step.{onPhase, stepOf}
 use Rattle.fetch.specs.Plain.{chunkCount, chosen}
 use Rattle.fetch.specs.Device.{reportsFor}
 use Rattle.fetch.specs.Claim.{regionBytes, regionReads}
+use Rattle.fetch.specs.Meaning.{howMany}
 use Rattle.fetch.proofs.Between.{Hit, hit, miss, entry-same}
 use Rattle.fetch.proofs.Chunk.{chunk-good, count-none, count-step}
 use Rattle.fetch.proofs.Counter.{calmIn}
 use Rattle.fetch.proofs.Ghost.{toldBy}
+use Rattle.fetch.proofs.Sent.{none-of-bytes}
 use Rattle.fetch.proofs.Verdict.{Sane, sane}
-use Rattle.fetch_forecast.specs.Claim.{isOpened, isByte, howMany, decodesIn, Decodes, isRefused}
-use Rattle.fetch_forecast.proofs.Counting.{opened-bytes, bytes-bytes, selected-chosen, summed-bytes, summed-reads}
+use Rattle.fetch_forecast.specs.Claim.{isOpened, isByte, decodesIn, Decodes, isRefused}
+use Rattle.fetch_forecast.proofs.Counting.{bytes-bytes, selected-chosen, summed-bytes, summed-reads}
 
 -- ---- finished (3)
 
@@ -409,7 +411,7 @@ module _ (u : Opening) (names : List ℕ) where
           (λ e.
           record {
             kept =
-                rw (opened-bytes (take j d), bytes-bytes (take j d), c, add-zero n, stays)
+                rw (none-of-bytes isOpened (λ b. refl) (take j d), bytes-bytes (take j d), c, add-zero n, stays)
                 (record { opening = opens; left = hands-left j (omega arith) });
             table = λ es v. inl (here es v);
             last = λ q i. other (A.Bytes j) refl q i;

@@ -26,9 +26,10 @@ use Rattle.steps.proofs.Steps.{outs-append, throughout-first, throughout-second
 use Rattle.fetch.specs.Plain.{Report, byte, finished, Setting}
 use Rattle.fetch.specs.Device.{definitions, Thing, own, other, isOwn, Lent, lent, delivered, kept, reportsFor, World, start, made, next, reported}
 use Rattle.fetch.specs.Claim.{reports}
+use Rattle.fetch.specs.Meaning.{howMany}
+use Rattle.fetch.proofs.Sent.{many-append}
 use Rattle.fetch.proofs.Counter.{isEnd, turned-over, all-over, Calm}
-use Rattle.fetch_forecast.specs.Claim.{isOpened, isByte, howMany, decodesIn, Decodes, Lends, Foretells}
-use Rattle.fetch_forecast.proofs.Counting.{many-append}
+use Rattle.fetch_forecast.specs.Claim.{isOpened, isByte, decodesIn, Decodes, Lends, Foretells}
 use Rattle.fetch_forecast.proofs.Step.{Kept, calm, Done, Goes, step-goes}
 
 -- ---- a report among others

@@ -7,7 +7,7 @@ use Prim.Native.Nat.{ℕ, _+_}
 use mathlib.Core.Logic.{_⊎_}
 use mathlib.Core.Path.{_≡_}
 use mathlib.Core.Bool.{Bool, true, false}
-use mathlib.Core.List.{List, [], _∷_, _++_}
+use mathlib.Core.List.{List, _∷_, _++_}
 use lib.Dec.{T}
 use lib.ListN.{take}
 use Rattle.field.specs.Field.{fieldSize}
@@ -21,10 +21,11 @@ use Rattle.session.specs.declared.Phase.the-variants as P
 use Rattle.session.specs.declared.Session.{Session}
 use Rattle.session.specs.declared.Answer.{Answer}
 use Rattle.session.specs.declared.Answer.the-variants as A
-use Rattle.steps.specs.Steps.{one, final, Throughout}
+use Rattle.steps.specs.Steps.{final, Throughout}
 use Rattle.fetch.specs.Plain.{Report, sent, image, opened, byte, emptyRead, closed, finished, Setting}
 use Rattle.fetch.specs.Device.{Host, Lent, isOwn, World, start, made, next}
 use Rattle.fetch.specs.Claim.{reports}
+use Rattle.fetch.specs.Meaning.{howMany}
 
 -- ---- what is counted: "the regions it opened, the bytes it handed out"
 
@@ -45,10 +46,6 @@ isByte (byte b) = true
 isByte emptyRead = false
 isByte (closed i) = false
 isByte (finished how r) = false
-
-unfoldable pub howMany : (Report → Bool) → List Report → ℕ
-howMany p [] = 0
-howMany p (r ∷ l) = one (p r) + howMany p l
 
 -- ---- "its table decoded to this list"
 
