@@ -86,13 +86,13 @@ abbrev pub entryBytes : Width → ℕ → ℕ → ℕ → List ℕ → List ℕ
 entryBytes v pref base len name = fields (fieldSize v) (pref ∷ base ∷ len ∷ []) ++ (replicate 20 0 ++ take 20 (name ++ replicate 20 0))
 
 -- "OCIMEM", "DDRCS0" and ".BIN"; the same lowered
-abbrev ocimem : List ℕ
+abbrev pub ocimem : List ℕ
 ocimem = 0x4F ∷ 0x43 ∷ 0x49 ∷ 0x4D ∷ 0x45 ∷ 0x4D ∷ []
 
 abbrev ddrcs0 : List ℕ
 ddrcs0 = 0x44 ∷ 0x44 ∷ 0x52 ∷ 0x43 ∷ 0x53 ∷ 0x30 ∷ []
 
-abbrev bin : List ℕ
+abbrev pub bin : List ℕ
 bin = 0x2E ∷ 0x42 ∷ 0x49 ∷ 0x4E ∷ []
 
 -- 3 bytes below the end of the memory, 2^32 or 2^64

@@ -91,7 +91,7 @@ record Ready (c : Setting) (dbg : Debug) (en : Ending) : Type 0 where
 -- ---- what is lent
 
 -- what is lent and comes back as it was leaves the run's own as it was
-kept-lent : (x : Thing) (b : List ℕ) → kept x b (lent x b) ≡ b
+pub kept-lent : (x : Thing) (b : List ℕ) → kept x b (lent x b) ≡ b
 kept-lent own b = refl
 kept-lent (other y) b = refl
 
@@ -99,7 +99,7 @@ left-none : (d : Delivery) (q : List ℕ) → left d 0 q ≡ q
 left-none (first k) q = refl
 left-none (another d) q = refl
 
-lent-own : (x : Thing) (b : List ℕ) → isOwn x ≡ true → lent x b ≡ b
+pub lent-own : (x : Thing) (b : List ℕ) → isOwn x ≡ true → lent x b ≡ b
 lent-own own b e = refl
 lent-own (other y) b e = absurd (let z : _≡_ {A = ℕ} 0 1 = cc in omega arith)
 

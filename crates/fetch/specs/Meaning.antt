@@ -36,7 +36,7 @@ readIn emptyRead = false
 readIn (closed i) = false
 readIn (finished how r) = false
 
--- the reports of which a test holds
+-- how many of the reports a test holds of
 unfoldable pub howMany : (Report → Bool) → List Report → ℕ
 howMany p [] = 0
 howMany p (r ∷ l) = one (p r) + howMany p l

@@ -1,6 +1,6 @@
--- The theorem is about something: a device of either width that is not true, since nothing is queued and it answers with bytes of its own; divided deliveries,
--- and steps refused that are lent other names and another table. Its forecast, computed; the premises, met; what the list reports, computed; and so the claim.
--- Assumes nothing.
+-- The theorem is about something: a device of either width that is not true, no delivery being of its queue; divided deliveries; steps lent another's image set,
+-- reply and out buffer, and steps refused that are lent other names and another table. The forecast, computed; the premises, met, where the table is decoded between
+-- regions and in one; what the list reports, computed; and so the claim. Assumes nothing.
 use mathlib.Core.Path.{_≡_, refl}
 use mathlib.Core.Logic.{inl, inr}
 use mathlib.Core.List.{List, [], _∷_, _++_, map}
@@ -34,16 +34,9 @@ use Rattle.fetch.specs.Plain.{Report, sent, opened, byte, closed, finished, Set
 use Rattle.fetch.specs.Device.{definitions, own, other, another, Lent, served, start, next}
 use Rattle.fetch.specs.Claim.{reports}
 use Rattle.fetch.specs.Meaning.{howMany}
-use Rattle.fetch.proofs.Example.{debugBytes, readBytes, entryBytes, on}
+use Rattle.fetch.proofs.Example.{debugBytes, readBytes, entryBytes, ocimem, bin, on}
 use Rattle.fetch_forecast.specs.Claim.{Decodes, Lends, Comes}
 use Rattle.fetch_forecast.proofs.Theorem.{foretold}
-
--- "OCIMEM", lowered "ocimem", and ".BIN"
-abbrev ocimem : List ℕ
-ocimem = 0x4F ∷ 0x43 ∷ 0x49 ∷ 0x4D ∷ 0x45 ∷ 0x4D ∷ []
-
-abbrev bin : List ℕ
-bin = 0x2E ∷ 0x42 ∷ 0x49 ∷ 0x4E ∷ []
 
 -- a region of 5 bytes; one that is preferred, and that the name does not select; one of no byte. Behind them 3 bytes that are no entry
 abbrev tableBytes : Width → List ℕ
@@ -54,14 +47,14 @@ abbrev tableSize : Width → ℕ
 tableSize WI.Bits32 = 159
 tableSize WI.Bits64 = 195
 
--- no image; the name "ocimem"; a table buffer that is longer than the table; nothing is queued
-abbrev board : Width → Setting
-board v =
+-- no image; the name "ocimem"; a table buffer longer than the table by more than an entry; nothing is queued at first
+abbrev board : Setting
+board =
     record {
       opening = on U.Usb;
       set = replicate 8 0;
       names = words (1 ∷ 6 ∷ 0 ∷ 6 ∷ []) ++ map low ocimem;
-      table = replicate 200 0;
+      table = replicate 300 0;
       reply = [];
       out = replicate 48 0;
       bytes = [];
@@ -72,14 +65,18 @@ board v =
 abbrev given : List ℕ → Lent
 given d = record { delivery = another d; set = own; names = own; table = own; reply = own; out = own }
 
+-- lent an image set, a reply and an out buffer of another's
+abbrev among : List ℕ → Lent
+among d = record { delivery = another d; set = other (replicate 8 0); names = own; table = own; reply = other []; out = other (replicate 48 1) }
+
 -- the memory debug in two parts, the table in three
 abbrev first-steps : Width → List Lent
 first-steps v =
     given (take 5 (debugBytes v 0 (tableSize v)))
-    ∷ given (drop 5 (debugBytes v 0 (tableSize v)))
+    ∷ among (drop 5 (debugBytes v 0 (tableSize v)))
     ∷ given (take 50 (tableBytes v))
     ∷ record { delivery = another (1 ∷ []); set = own; names = other (9 ∷ []); table = own; reply = own; out = own }
-    ∷ given (take 100 (drop 50 (tableBytes v)))
+    ∷ among (take 100 (drop 50 (tableBytes v)))
     ∷ given (drop 150 (tableBytes v))
     ∷ []
 
@@ -87,8 +84,8 @@ first-steps v =
 abbrev last-steps : List Lent
 last-steps =
     given []
-    ∷ given []
-    ∷ given (7 ∷ 8 ∷ 9 ∷ [])
+    ∷ among []
+    ∷ among (7 ∷ 8 ∷ 9 ∷ [])
     ∷ given (7 ∷ 8 ∷ 9 ∷ 10 ∷ [])
     ∷ given []
     ∷ record { delivery = another []; set = own; names = other (replicate 8 0); table = other []; reply = own; out = own }
@@ -118,28 +115,105 @@ told v =
 abbrev entries : Width → List RamdumpTable64
 entries v = entryIn (fieldSize v) (tableBytes v) 0 ∷ entryIn (fieldSize v) (tableBytes v) 1 ∷ entryIn (fieldSize v) (tableBytes v) 2 ∷ []
 
-fit : (v : Width) → Throughout (next definitions (board v)) (Lends definitions (board v)) (start definitions (board v)) (first-steps v ++ last-steps)
+-- not refused and the run's own names and table; or refused
+abbrev Fits : Width → Type 0
+Fits v = Throughout (next definitions board) (Lends definitions board) (start definitions board) (first-steps v ++ last-steps)
+
+fit : (v : Width) → Fits v
 unfolding stepOf limitOf packetOf sizedOf wholeOf tableOf betweenOf nextChunk askOf handOf regionOf chunkOf openCheck afterOpenCheck
     nextOf served wellFormed slotsGood slotOf verdictOf decodeOf classOf kinds kindOf bytesOf selected stemOf before low namesFrom
     same member has goesOn leads afterFirst table fields le leBytes
-fit WI.Bits32 = (inr (tt, tt), (inr (tt, tt), (inr (tt, tt), (inl tt, (inr (tt, tt), (inr (tt, tt), (inr (tt, tt), (inr (tt, tt), (inr (tt, tt), (inr (tt, tt), (inr (tt, tt), (inl tt, (inr (tt, tt), (inr (tt, tt), (inr (tt, tt), (inl tt, tt))))))))))))))))
-fit WI.Bits64 = (inr (tt, tt), (inr (tt, tt), (inr (tt, tt), (inl tt, (inr (tt, tt), (inr (tt, tt), (inr (tt, tt), (inr (tt, tt), (inr (tt, tt), (inr (tt, tt), (inr (tt, tt), (inl tt, (inr (tt, tt), (inr (tt, tt), (inr (tt, tt), (inl tt, tt))))))))))))))))
+fit WI.Bits32 = (
+  inr (tt, tt),
+  (
+    inr (tt, tt),
+    (
+      inr (tt, tt),
+      (
+        inl tt,
+        (
+          inr (tt, tt),
+          (
+            inr (tt, tt),
+            (
+              inr (tt, tt),
+              (
+                inr (tt, tt),
+                (
+                  inr (tt, tt),
+                  (
+                    inr (tt, tt),
+                    (inr (tt, tt), (inl tt, (inr (tt, tt), (inr (tt, tt), (inr (tt, tt), (inl tt, tt)))))),
+                  ),
+                ),
+              ),
+            ),
+          ),
+        ),
+      ),
+    ),
+  ),
+)
+fit WI.Bits64 = (
+  inr (tt, tt),
+  (
+    inr (tt, tt),
+    (
+      inr (tt, tt),
+      (
+        inl tt,
+        (
+          inr (tt, tt),
+          (
+            inr (tt, tt),
+            (
+              inr (tt, tt),
+              (
+                inr (tt, tt),
+                (
+                  inr (tt, tt),
+                  (
+                    inr (tt, tt),
+                    (inr (tt, tt), (inl tt, (inr (tt, tt), (inr (tt, tt), (inr (tt, tt), (inl tt, tt)))))),
+                  ),
+                ),
+              ),
+            ),
+          ),
+        ),
+      ),
+    ),
+  ),
+)
 
-decoded : (v : Width) → (let w = final (next definitions (board v)) (start definitions (board v)) (first-steps v) in
-    Decodes (w .state) (w .table) (entries v))
+-- behind some of the steps
+abbrev DecodedBehind : Width → List Lent → Type 0
+DecodedBehind v ls =
+    let w = final (next definitions board) (start definitions board) ls in
+    Decodes (w .state) (w .table) (entries v)
+
+decoded : (v : Width) → DecodedBehind v (first-steps v)
 unfolding stepOf limitOf packetOf sizedOf wholeOf tableOf betweenOf nextChunk askOf handOf regionOf chunkOf openCheck afterOpenCheck
     nextOf served wellFormed slotsGood slotOf verdictOf decodeOf classOf kinds kindOf bytesOf selected stemOf before low namesFrom
     same member has goesOn leads afterFirst table fields le leBytes entriesFrom
 decoded WI.Bits32 = refl
 decoded WI.Bits64 = refl
 
+-- in the first region, when some of its bytes came
+decoded-inside : (v : Width) → DecodedBehind v (first-steps v ++ take 3 last-steps)
+unfolding stepOf limitOf packetOf sizedOf wholeOf tableOf betweenOf nextChunk askOf handOf regionOf chunkOf openCheck afterOpenCheck
+    nextOf served wellFormed slotsGood slotOf verdictOf decodeOf classOf kinds kindOf bytesOf selected stemOf before low namesFrom
+    same member has goesOn leads afterFirst table fields le leBytes entriesFrom
+decoded-inside WI.Bits32 = refl
+decoded-inside WI.Bits64 = refl
+
 -- two regions, 5 bytes, two memory reads
-forecast : (v : Width) → forecastOf (chunkOf (board v .opening)) (entries v) (board v .names) ≡ F.Needs 2 5 2
+forecast : (v : Width) → forecastOf (chunkOf (board .opening)) (entries v) (board .names) ≡ F.Needs 2 5 2
 unfolding forecastOf isSelected selectedOf summed chunkOf wellFormed slotsGood slotOf stemOf before low namesFrom same member has goesOn leads afterFirst table fields le leBytes
 forecast WI.Bits32 = refl
 forecast WI.Bits64 = refl
 
-reported : (v : Width) → reports definitions (board v) (start definitions (board v)) (first-steps v ++ last-steps) ≡ told v ++ (finished 3 2 ∷ [])
+reported : (v : Width) → reports definitions board (start definitions board) (first-steps v ++ last-steps) ≡ told v ++ (finished 3 2 ∷ [])
 unfolding stepOf limitOf packetOf sizedOf wholeOf tableOf betweenOf nextChunk askOf handOf regionOf chunkOf openCheck afterOpenCheck
     nextOf served wellFormed slotsGood slotOf verdictOf decodeOf classOf kinds kindOf bytesOf selected stemOf before low namesFrom
     same member has goesOn leads afterFirst table fields le leBytes
@@ -148,8 +222,12 @@ reported WI.Bits64 = refl
 
 -- ---- so the claim
 
-claimed : (v : Width) → Comes 2 5 2 2 (reports definitions (board v) (start definitions (board v)) (first-steps v ++ last-steps))
-claimed v = foretold (board v) (first-steps v) last-steps (fit v) (entries v) (decoded v) 2 5 2 (forecast v) (told v) [] 2 (reported v)
+claimed : (v : Width) → Comes 2 5 2 2 (reports definitions board (start definitions board) (first-steps v ++ last-steps))
+claimed v = foretold board (first-steps v) last-steps (fit v) (entries v) (decoded v) 2 5 2 (forecast v) (told v) [] 2 (reported v)
+
+claimed-inside : (v : Width) → Comes 2 5 2 2 (reports definitions board (start definitions board) (first-steps v ++ last-steps))
+claimed-inside v =
+    foretold board (first-steps v ++ take 3 last-steps) (drop 3 last-steps) (fit v) (entries v) (decoded-inside v) 2 5 2 (forecast v) (told v) [] 2 (reported v)
 
 -- as the report itself says
 counted : (v : Width) → Comes 2 5 2 2 (told v ++ (finished 3 2 ∷ []))

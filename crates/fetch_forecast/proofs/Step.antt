@@ -28,7 +28,7 @@ use Rattle.verdict.specs.Verdict.{verdictOf}
 use Rattle.verdict.specs.declared.Opening.{Opening}
 use Rattle.verdict.specs.declared.Verdict.{Verdict}
 use Rattle.verdict.specs.declared.Verdict.the-variants as W
-use Rattle.forecast.specs.Forecast.{selectedOf, regionsOf, bytesOf, readsOf}
+use Rattle.forecast.specs.Forecast.{selectedOf, regionsNeeded, bytesNeeded, readsNeeded}
 use Rattle.session.specs.declared.Filling.{Filling}
 use Rattle.session.specs.declared.Region.{Region}
 use Rattle.session.specs.declared.Phase.{Phase}
@@ -58,19 +58,19 @@ use Rattle.fetch_forecast.proofs.Counting.{bytes-bytes, selected-chosen
 
 -- ---- finished (3)
 
-abbrev threes : Answer → Bool
-threes A.Go = false
-threes (A.Send k) = false
-threes (A.Image x k) = false
-threes (A.Open i) = false
-threes (A.Bytes k) = false
-threes A.EmptyRead = false
-threes (A.Close i) = false
-threes (A.Finished how r) = eqb how 3
-threes (A.Refused why) = false
+abbrev finishesThree : Answer → Bool
+finishesThree A.Go = false
+finishesThree (A.Send k) = false
+finishesThree (A.Image x k) = false
+finishesThree (A.Open i) = false
+finishesThree (A.Bytes k) = false
+finishesThree A.EmptyRead = false
+finishesThree (A.Close i) = false
+finishesThree (A.Finished how r) = eqb how 3
+finishesThree (A.Refused why) = false
 
-other : {X : Type 0} (a : Answer) → threes a ≡ false → (q : ℕ) → a ≡ A.Finished 3 q → X
-other a e q h = differ (sym e ∙ ap threes h)
+other : {X : Type 0} (a : Answer) → finishesThree a ≡ false → (q : ℕ) → a ≡ A.Finished 3 q → X
+other a e q h = differ (sym e ∙ ap finishesThree h)
 
 -- ---- sums of what is done, of the open region, and of the regions behind it
 
@@ -126,9 +126,9 @@ module _ (u : Opening) (names : List ℕ) where
 
   -- the forecast's numbers of a list
   pub record Done (es : List RamdumpTable64) (n m q : ℕ) : Type 0 where
-    pub regions : n ≡ regionsOf names es
-    pub bytes : m ≡ bytesOf names es
-    pub reads : q ≡ readsOf (chunkOf u) names es
+    pub regions : n ≡ regionsNeeded names es
+    pub bytes : m ≡ bytesNeeded names es
+    pub reads : q ≡ readsNeeded (chunkOf u) names es
 
   -- nothing is left
   all-done : (f : ℕ) (b : List ℕ) (k : ℕ) (es : List RamdumpTable64) (n m q : ℕ) → k ≤ length b → Left f b k [] n m q 0 0
@@ -170,7 +170,7 @@ module _ (u : Opening) (names : List ℕ) where
     -- nothing is opened or handed out, and it is not finished (3)
     quiet : (p : Phase) (z : Session) (j : ℕ) (a : Answer) (t′ y′ o′ : List ℕ) → howMany isOpened (reportsFor a d set o′) ≡ 0
         → howMany isByte (reportsFor a d set o′) ≡ 0 → z .opening ≡ s .opening
-        → leftIn (fieldSize (z .width)) (z .phase) (put t′) n m (z .reads) → threes a ≡ false
+        → leftIn (fieldSize (z .width)) (z .phase) (put t′) n m (z .reads) → finishesThree a ≡ false
         → ((es : List RamdumpTable64) → decodesIn f p b es → Decodes z (put t′) es ⊎ T (isEnded (z .phase)))
         → Goes p (outcome (gives z j a) t′ y′ o′)
     quiet p z j a t′ y′ o′ e g h l w x =
@@ -183,7 +183,7 @@ module _ (u : Opening) (names : List ℕ) where
 
     -- the session stays as it is
     still : (p : Phase) → s .phase ≡ p → leftIn f p b n m (s .reads) → (j : ℕ) (a : Answer) → howMany isOpened (reportsFor a d set o) ≡ 0
-        → howMany isByte (reportsFor a d set o) ≡ 0 → threes a ≡ false → Goes p (outcome (gives s j a) t y o)
+        → howMany isByte (reportsFor a d set o) ≡ 0 → finishesThree a ≡ false → Goes p (outcome (gives s j a) t y o)
     still p e l j a g h w =
         quiet p s j a t y o g h refl (subst (λ (x : Phase). leftIn f x (put t) n m (s .reads)) (sym e) (rw stays l)) w
         (λ es x. inl (subst (λ (z : Phase). decodesIn f z (put t) es) (sym e) (rw stays x)))
@@ -198,7 +198,7 @@ module _ (u : Opening) (names : List ℕ) where
     module _ (h : ℕ) (x : (n ≡ 0) × (m ≡ 0) × (s .reads ≡ 0)) where
       -- any session but one that has its table
       early : (z : Session) (j : ℕ) (a : Answer) (o′ : List ℕ) → howMany isOpened (reportsFor a d set o′) ≡ 0 → howMany isByte (reportsFor a d set o′) ≡ 0
-          → z .opening ≡ s .opening → leftIn (fieldSize (z .width)) (z .phase) (put t) n m (z .reads) → threes a ≡ false
+          → z .opening ≡ s .opening → leftIn (fieldSize (z .width)) (z .phase) (put t) n m (z .reads) → finishesThree a ≡ false
           → Goes (P.Packet h) (outcome (gives z j a) t y o′)
       early z j a o′ e g i l w = quiet (P.Packet h) z j a t y o′ e g i l w (λ es v. absurd v)
 

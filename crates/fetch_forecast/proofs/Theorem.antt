@@ -28,7 +28,8 @@ use Rattle.fetch.specs.Device.{definitions, Thing, own, other, isOwn, Lent, len
 use Rattle.fetch.specs.Claim.{reports}
 use Rattle.fetch.specs.Meaning.{howMany}
 use Rattle.fetch.proofs.Sent.{many-append}
-use Rattle.fetch.proofs.Counter.{isEnd, turned-over, all-over, Calm}
+use Rattle.fetch.proofs.Counter.{isEnd, after, says, turned-over, all-over, Calm}
+use Rattle.fetch.proofs.Theorem.{kept-lent, lent-own}
 use Rattle.fetch_forecast.specs.Claim.{isOpened, isByte, decodesIn, Decodes, Lends, Foretells}
 use Rattle.fetch_forecast.proofs.Step.{Kept, calm, Done, Goes, step-goes}
 
@@ -65,16 +66,6 @@ in-told (A.Close i) d set o k h = no-end _ k refl h
 in-told (A.Finished how r) d set o k h = ⊎-elim (λ (e : finished 3 k ≡ finished how r). cc) (λ i. absurd i) h
 in-told (A.Refused why) d set o k h = absurd h
 
--- ---- what a step is lent
-
-lent-own : (x : Thing) (b : List ℕ) → T (isOwn x) → lent x b ≡ b
-lent-own own b h = refl
-lent-own (other y) b h = absurd h
-
-kept-lent : (x : Thing) (b : List ℕ) → kept x b (lent x b) ≡ b
-kept-lent own b = refl
-kept-lent (other y) b = refl
-
 -- a session that has its table has not ended
 has-not-ended : {X : Type 0} (f : ℕ) (p : Phase) (b : List ℕ) (es : List RamdumpTable64) → decodesIn f p b es → isEnded p ≡ true → X
 has-not-ended f (P.Packet h) b es e i = absurd e
@@ -89,17 +80,11 @@ module _ (c : Setting) where
   abbrev u : Opening
   u = c .opening
 
-  abbrev after : World Session → Lent → World Session
-  after = next definitions c
-
-  abbrev says : World Session → Lent → List Report
-  says = reported definitions c
-
   abbrev all : World Session → List Lent → List Report
   all = reports definitions c
 
   abbrev Fit : World Session → List Lent → Type 0
-  Fit w ls = Throughout after (Lends definitions c) w ls
+  Fit w ls = Throughout (after c) (Lends definitions c) w ls
 
   -- so many regions opened and bytes handed out before
   abbrev Good : World Session → ℕ → ℕ → Type 0
@@ -119,38 +104,38 @@ module _ (c : Setting) where
   went w l n m g h =
       step-goes u (c .names) (w .state) (w .table) n m (g .opening) (delivered (l .delivery) (w .queue)) (lent (l .set) (c .set)) (lent (l .names) (c .names))
       (lent (l .table) (w .table)) (lent (l .reply) (w .reply)) (lent (l .out) (w .out)) (kept (l .table) (w .table)) (kept-lent (l .table) (w .table))
-      (g .left) (⊎-elim (λ e. inl e) (λ e. inr (lent-own (l .names) (c .names) (e .0), lent-own (l .table) (w .table) (e .1))) h)
+      (g .left) (⊎-elim (λ e. inl e) (λ e. inr (lent-own (l .names) (c .names) (holds _ (e .0)), lent-own (l .table) (w .table) (holds _ (e .1)))) h)
 
   -- an end is told by a step that ends the session
-  told-last : (w : World Session) (l : Lent) (n m : ℕ) → Good w n m → Lends definitions c w l → (k : ℕ) → In (finished 3 k) (says w l)
-      → isEnded (after w l .state .phase) ≡ true
+  told-last : (w : World Session) (l : Lent) (n m : ℕ) → Good w n m → Lends definitions c w l → (k : ℕ) → In (finished 3 k) (says c w l)
+      → isEnded (after c w l .state .phase) ≡ true
   told-last w l n m g h k i = went w l n m g h .last k (in-told (made definitions c w l .answer) _ _ _ k i)
 
   -- ---- a list
 
   along : (ls : List Lent) (w : World Session) (n m : ℕ) → Good w n m → Fit w ls
-      → Good (final after w ls) (n + howMany isOpened (all w ls)) (m + howMany isByte (all w ls))
+      → Good (final (after c) w ls) (n + howMany isOpened (all w ls)) (m + howMany isByte (all w ls))
   unfolding howMany
   along [] w n m g h = rw (add-zero n, add-zero m) g
   along (l ∷ ls) w n m g h =
-      rw (many-append isOpened (says w l) (all (after w l) ls), many-append isByte (says w l) (all (after w l) ls), ← add-assoc n, ← add-assoc m)
-      (along ls (after w l) _ _ (went w l n m g (h .0) .kept) (h .1))
+      rw (many-append isOpened (says c w l) (all (after c w l) ls), many-append isByte (says c w l) (all (after c w l) ls), ← add-assoc n, ← add-assoc m)
+      (along ls (after c w l) _ _ (went w l n m g (h .0) .kept) (h .1))
 
   -- what has ended stays so
-  stays-over : (ls : List Lent) (w : World Session) → Calm (w .state) → isEnded (w .state .phase) ≡ true → isEnded (final after w ls .state .phase) ≡ true
+  stays-over : (ls : List Lent) (w : World Session) → Calm (w .state) → isEnded (w .state .phase) ≡ true → isEnded (final (after c) w ls .state .phase) ≡ true
   stays-over [] w k h = h
   stays-over (l ∷ ls) w k h =
       let o = turned-over c w l k h in
-      stays-over ls (after w l) (rw (o .0) k) (rw (o .0) h)
+      stays-over ls (after c w l) (rw (o .0) k) (rw (o .0) h)
 
   -- behind an end the session has ended
   over-after : (ls : List Lent) (w : World Session) (n m : ℕ) → Good w n m → Fit w ls → (k : ℕ) → In (finished 3 k) (all w ls)
-      → isEnded (final after w ls .state .phase) ≡ true
+      → isEnded (final (after c) w ls .state .phase) ≡ true
   over-after [] w n m g h k i = absurd i
   over-after (l ∷ ls) w n m g h k i =
       let x = went w l n m g (h .0) .kept in
-      ⊎-elim (λ e. stays-over ls (after w l) (good-calm (after w l) _ _ x) (told-last w l n m g (h .0) k e)) (λ e. over-after ls (after w l) _ _ x (h .1) k e)
-      (in-append (says w l) (all (after w l) ls) (finished 3 k) i)
+      ⊎-elim (λ e. stays-over ls (after c w l) (good-calm (after c w l) _ _ x) (told-last w l n m g (h .0) k e)) (λ e. over-after ls (after c w l) _ _ x (h .1) k e)
+      (in-append (says c w l) (all (after c w l) ls) (finished 3 k) i)
 
   -- from where the table is decoded on, to the end
   finishes : (es : List RamdumpTable64) (k : ℕ) (ls : List Lent) (w : World Session) (n m : ℕ) → Good w n m
@@ -160,20 +145,20 @@ module _ (c : Setting) where
   finishes es k [] w n m g t h i = absurd i
   finishes es k (l ∷ ls) w n m g t h i =
       let x = went w l n m g (h .0) in
-      let y : List Report = all (after w l) ls in
+      let y : List Report = all (after c w l) ls in
       ⊎-elim
       (λ (e : Decodes (w .state) (w .table) es).
       ⊎-elim
-      (λ (j : In (finished 3 k) (says w l)).
+      (λ (j : In (finished 3 k) (says c w l)).
       let a : made definitions c w l .answer ≡ A.Finished 3 k = in-told (made definitions c w l .answer) _ _ _ k j in
-      let q : says w l ≡ finished 3 k ∷ [] =
+      let q : says c w l ≡ finished 3 k ∷ [] =
       ap (λ (r : Answer). reportsFor r (delivered (l .delivery) (w .queue)) (lent (l .set) (c .set)) (made definitions c w l .out)) a in
-      let z : y ≡ [] = all-over c ls (after w l) (good-calm (after w l) _ _ (x .kept)) (x .last k a) in
+      let z : y ≡ [] = all-over c ls (after c w l) (good-calm (after c w l) _ _ (x .kept)) (x .last k a) in
       rw (q, z, add-zero n, add-zero m) (x .ends k a es e))
       (λ (j : In (finished 3 k) y).
-      rw (many-append isOpened (says w l) y, many-append isByte (says w l) y, ← add-assoc n, ← add-assoc m)
-      (finishes es k ls (after w l) _ _ (x .kept) (x .table es e) (h .1) j))
-      (in-append (says w l) y (finished 3 k) i))
+      rw (many-append isOpened (says c w l) y, many-append isByte (says c w l) y, ← add-assoc n, ← add-assoc m)
+      (finishes es k ls (after c w l) _ _ (x .kept) (x .table es e) (h .1) j))
+      (in-append (says c w l) y (finished 3 k) i))
       (λ (e : T (isEnded (w .state .phase))).
       let z : all w (l ∷ ls) ≡ [] = all-over c (l ∷ ls) w (good-calm w n m g) (holds _ e) in
       absurd (subst (In (finished 3 k)) z i))

@@ -3,7 +3,7 @@
 -- bytes it handed out and the memory reads it reported." The device may be any, true or not: in the world of fetch/specs/Device a step is delivered the queue's
 -- first bytes or any others, and what it is lent besides (image set, reply and out buffer) may be another's in each step. The theorem, `Foretells definitions
 -- Decodes`, is `foretold` of proofs/Theorem, and through the C interface `foretold-raw` of proofs/Raw.
-use Prim.Native.Nat.{ℕ, _+_}
+use Prim.Native.Nat.{ℕ}
 use mathlib.Core.Logic.{_⊎_}
 use mathlib.Core.Path.{_≡_}
 use mathlib.Core.Bool.{Bool, true, false}
@@ -49,7 +49,8 @@ isByte (finished how r) = false
 
 -- ---- "its table decoded to this list"
 
--- a session has its table while regions are dumped: so many bytes of the table buffer b as the memory debug told, k. f is the width of an entry's numbers
+-- a session has its table from its last byte until the session ends: the first k bytes of the table buffer b, as many as the memory debug told. f is the width of
+-- an entry's numbers. (One that has ended tells no length of its table any more: the list is decoded before, and the buffer stays as it is)
 abbrev pub decodesIn : ℕ → Phase → List ℕ → List RamdumpTable64 → Type 0
 decodesIn f (P.Packet h) b es = ⊥
 decodesIn f (P.Response x) b es = ⊥
@@ -75,7 +76,7 @@ isRefused (A.Close i) = false
 isRefused (A.Finished how r) = false
 isRefused (A.Refused why) = true
 
--- the run's own names and its own table buffer, which only steps that are lent it change (`next`)
+-- refused; or lent the run's own names and its own table buffer, which only steps that are lent it change (`next`)
 abbrev pub Lends : (h : Host) → Setting → World (h .State) → Lent → Type 0
 Lends h c w l = T (isRefused (made h c w l .answer)) ⊎ (T (isOwn (l .names)) × T (isOwn (l .table)))
 

@@ -1,4 +1,4 @@
--- The forecast of the table that a session's numbers tell of, as they cross to C: that of the session with these numbers.
+-- The list that a session's table decodes to, the session being numbers as they cross to C: that of the session that these numbers are read as.
 use mathlib.Core.List.{List}
 use Prim.Native.Nat.{ℕ}
 use Rattle.entry.specs.declared.RamdumpTable64.{RamdumpTable64}

@@ -15,8 +15,8 @@ use Rattle.bundle.specs.Bundle.{wellFormed}
 use Rattle.entry.specs.Entry.{entryIn, entriesFrom}
 use Rattle.entry.specs.declared.RamdumpTable64.{RamdumpTable64}
 use Rattle.verdict.specs.Opening.{chunksIn}
-use Rattle.forecast.specs.Forecast.{isSelected, selectedOf, summed, regionsOf, bytesOf, readsOf, passes, forecastOf}
-use Rattle.forecast.specs.Sums.{refusedSums, startOf, moreOf, addOf, addAll, answerOf}
+use Rattle.forecast.specs.Forecast.{isSelected, selectedOf, summed, regionsNeeded, bytesNeeded, readsNeeded, passes, forecastOf}
+use Rattle.forecast.specs.Sums.{refusedSums, startOf, moreOf, addOf, addAll, foreseenOf}
 use Rattle.forecast.specs.declared.Foreseen.{Foreseen}
 use Rattle.forecast.specs.declared.Foreseen.the-variants as F
 use Rattle.forecast.specs.declared.Sums.{Sums}
@@ -42,12 +42,12 @@ needs-refused : (why n b r : ℕ) → F.Refused why ≡ F.Needs n b r → ⊥
 needs-refused why n b r e = let z : _≡_ {A = ℕ} 0 1 = cc in omega arith
 
 pub needs-are : (c : ℕ) (es : List RamdumpTable64) (names : List ℕ) (n b r : ℕ) → forecastOf c es names ≡ F.Needs n b r
-    → (n ≡ regionsOf names es) × (b ≡ bytesOf names es) × (r ≡ readsOf c names es)
+    → (n ≡ regionsNeeded names es) × (b ≡ bytesNeeded names es) × (r ≡ readsNeeded c names es)
 unfolding forecastOf
 needs-are c es names n b r e =
     let x = by-else (not (wellFormed false names)) _ _ (needs-refused 26 n b r) e in
-    let y = by-else (passes (bytesOf names es) || passes (readsOf c names es)) _ _ (needs-refused 27 n b r) (x .1) in
-    let z : F.Needs (regionsOf names es) (bytesOf names es) (readsOf c names es) ≡ F.Needs n b r = y .1 in
+    let y = by-else (passes (bytesNeeded names es) || passes (readsNeeded c names es)) _ _ (needs-refused 27 n b r) (x .1) in
+    let z : F.Needs (regionsNeeded names es) (bytesNeeded names es) (readsNeeded c names es) ≡ F.Needs n b r = y .1 in
     (cc, cc, cc)
 
 -- ---- the sums
@@ -66,31 +66,31 @@ module _ (c : ℕ) (names : List ℕ) where
   stays [] s h = refl
   stays (e ∷ es) s h = rw h (stays es s h)
 
-  refused-27 : (es : List RamdumpTable64) → answerOf (addAll c names (refusedSums 27) es) ≡ F.Refused 27
+  refused-27 : (es : List RamdumpTable64) → foreseenOf (addAll c names (refusedSums 27) es) ≡ F.Refused 27
   refused-27 es = rw (stays es (refusedSums 27) refl) refl
 
   -- what the entries es behind sums come to
   abbrev Total : List RamdumpTable64 → ℕ → ℕ → ℕ → Type 0
-  Total es n b r = answerOf (addAll c names (sums n b r) es) ≡ judged (n + regionsOf names es) (b + bytesOf names es) (r + reads es)
+  Total es n b r = foreseenOf (addAll c names (sums n b r) es) ≡ judged (n + regionsNeeded names es) (b + bytesNeeded names es) (r + reads es)
 
   -- behind one region more, of l bytes and k memory reads
   one-more : (es : List RamdumpTable64) (n b r l k : ℕ) → n + 1 < 2 ^ 64
       → (passes (b + l) ≡ false → passes (r + k) ≡ false → Total es (n + 1) (b + l) (r + k))
-      → answerOf
+      → foreseenOf
       (addAll c names
       (pick (passes (b + l)) (refusedSums 27)
       (pick (passes (r + k)) (refusedSums 27) (record { regions = (n + 1) % 2 ^ 64; bytes = b + l; reads = r + k; refused = 0 })))
       es)
-      ≡ judged (n + suc (regionsOf names es)) (b + (l + bytesOf names es)) (r + (k + reads es))
+      ≡ judged (n + suc (regionsNeeded names es)) (b + (l + bytesNeeded names es)) (r + (k + reads es))
   one-more es n b r l k h f =
       by-test (passes (b + l))
-      (λ i. rw i (refused-27 es) ∙ sym (judged-bytes (n + suc (regionsOf names es)) (b + (l + bytesOf names es)) (r + (k + reads es)) (passes-more (b + l) (b + (l + bytesOf names es)) i (omega arith))))
+      (λ i. rw i (refused-27 es) ∙ sym (judged-bytes (n + suc (regionsNeeded names es)) (b + (l + bytesNeeded names es)) (r + (k + reads es)) (passes-more (b + l) (b + (l + bytesNeeded names es)) i (omega arith))))
       (λ i.
       by-test (passes (r + k))
-      (λ j. rw (i, j) (refused-27 es) ∙ sym (judged-reads (n + suc (regionsOf names es)) (b + (l + bytesOf names es)) (r + (k + reads es)) (passes-more (r + k) (r + (k + reads es)) j (omega arith))))
+      (λ j. rw (i, j) (refused-27 es) ∙ sym (judged-reads (n + suc (regionsNeeded names es)) (b + (l + bytesNeeded names es)) (r + (k + reads es)) (passes-more (r + k) (r + (k + reads es)) j (omega arith))))
       (λ j.
       let m : (n + 1) % 2 ^ 64 ≡ n + 1 = mod-eq-of-lt h in
-      let g : n + suc (regionsOf names es) ≡ n + 1 + regionsOf names es = omega arith in
+      let g : n + suc (regionsNeeded names es) ≡ n + 1 + regionsNeeded names es = omega arith in
       rw (i, j, m, g, ← add-assoc b, ← add-assoc r) (f i j)))
 
   -- one entry of a list, selected or not
@@ -130,11 +130,11 @@ module _ (c : ℕ) (names : List ℕ) where
       (λ i. rw (add-no e es n b r i, selected-no e es i) (total es n b r (omega arith) x y))
 
   -- the sums of a list that is lent come to its forecast
-  pub sums-are : (es : List RamdumpTable64) → length es < 2 ^ 64 → answerOf (addAll c names (startOf names) es) ≡ forecastOf c es names
+  pub sums-are : (es : List RamdumpTable64) → length es < 2 ^ 64 → foreseenOf (addAll c names (startOf names) es) ≡ forecastOf c es names
   unfolding forecastOf
   sums-are es h =
       by-test (wellFormed false names)
-      (λ e. rw e (total es 0 0 1 (omega arith) refl refl ∙ rw (zero-add (regionsOf names es), zero-add (bytesOf names es)) refl))
+      (λ e. rw e (total es 0 0 1 (omega arith) refl refl ∙ rw (zero-add (regionsNeeded names es), zero-add (bytesNeeded names es)) refl))
       (λ e. rw (e, stays es (refusedSums 26) refl) refl)
 
   -- one more entry of a table, of those from i on

@@ -31,14 +31,14 @@ summed n [] = 0
 summed n (e ∷ es) = n e + summed n es
 
 -- "how many regions are selected, their bytes and the memory reads including the table's": one for the table, and one for each chunk of a region
-abbrev pub regionsOf : List ℕ → List RamdumpTable64 → ℕ
-regionsOf names es = length (selectedOf names es)
+abbrev pub regionsNeeded : List ℕ → List RamdumpTable64 → ℕ
+regionsNeeded names es = length (selectedOf names es)
 
-abbrev pub bytesOf : List ℕ → List RamdumpTable64 → ℕ
-bytesOf names es = summed (λ e. e .len) (selectedOf names es)
+abbrev pub bytesNeeded : List ℕ → List RamdumpTable64 → ℕ
+bytesNeeded names es = summed (λ e. e .len) (selectedOf names es)
 
-abbrev pub readsOf : ℕ → List ℕ → List RamdumpTable64 → ℕ
-readsOf c names es = 1 + summed (λ e. chunksIn c (e .len)) (selectedOf names es)
+abbrev pub readsNeeded : ℕ → List ℕ → List RamdumpTable64 → ℕ
+readsNeeded c names es = 1 + summed (λ e. chunksIn c (e .len)) (selectedOf names es)
 
 -- a number "pass[es] 2^64 - 1"
 abbrev pub passes : ℕ → Bool
@@ -48,8 +48,8 @@ passes n = ltb (2 ^ 64 - 1) n
 unfoldable pub forecastOf : ℕ → List RamdumpTable64 → List ℕ → Foreseen
 forecastOf c es names =
     pick (not (wellFormed false names)) (F.Refused 26)
-    (pick (passes (bytesOf names es) || passes (readsOf c names es)) (F.Refused 27)
-    (F.Needs (regionsOf names es) (bytesOf names es) (readsOf c names es)))
+    (pick (passes (bytesNeeded names es) || passes (readsNeeded c names es)) (F.Refused 27)
+    (F.Needs (regionsNeeded names es) (bytesNeeded names es) (readsNeeded c names es)))
 
 -- what the answer tells: an operation that accepts tells go, here with the three numbers
 abbrev pub forecastTold : Foreseen → Told

@@ -13,7 +13,7 @@ use Rattle.forecast.specs.declared.Foreseen.the-variants as F
 use Rattle.forecast.specs.declared.Sums.{Sums}
 use Rattle.forecast.specs.Forecast.{isSelected, passes}
 
--- refused: 0 while nothing is
+-- refused with this number, and nothing counted; the number is 0 where nothing is refused
 abbrev pub refusedSums : ℕ → Sums
 refusedSums why = record { regions = 0; bytes = 0; reads = 0; refused = why }
 
@@ -36,5 +36,5 @@ unfoldable pub addAll : ℕ → List ℕ → Sums → List RamdumpTable64 → Su
 addAll c names s [] = s
 addAll c names s (e ∷ es) = addAll c names (addOf c names s e) es
 
-abbrev pub answerOf : Sums → Foreseen
-answerOf s = pick (eqb (s .refused) 0) (F.Needs (s .regions) (s .bytes) (s .reads)) (F.Refused (s .refused))
+abbrev pub foreseenOf : Sums → Foreseen
+foreseenOf s = pick (eqb (s .refused) 0) (F.Needs (s .regions) (s .bytes) (s .reads)) (F.Refused (s .refused))

@@ -14,7 +14,7 @@ ghost use Rattle.field.specs.Field.{fieldSize};
 ghost use Rattle.entry.specs.Entry.{entriesOf};
 ghost use Rattle.verdict.specs.Opening.{chunksIn};
 ghost use Rattle.forecast.specs.Forecast.{forecastOf, forecastTold};
-ghost use Rattle.forecast.specs.Sums.{refusedSums, startOf, moreOf, addOf, answerOf};
+ghost use Rattle.forecast.specs.Sums.{refusedSums, startOf, moreOf, addOf, foreseenOf};
 
 // The regions, their bytes, and the memory reads, the table's among them; or the refusal.
 pub enum Foreseen {
@@ -23,7 +23,7 @@ pub enum Foreseen {
 }
 
 // The same while a list is gone through; refused is 0 while nothing is.
-pub struct Sums {
+struct Sums {
     pub regions: u64,
     pub bytes: u64,
     pub reads: u64,
@@ -71,7 +71,7 @@ fn start(names: &[u8]) -> Sums
     }
 }
 
-// With a selected region more. No sum is made that passes 2^64 - 1, but of the regions, which no list has so many of.
+// With a selected region more. No sum is made that passes 2^64 - 1; the regions are counted modulo 2^64, and no list has so many.
 fn more(s: Sums, len: u64) -> Sums
     ensures { λ r. ⌜ r ≡ moreOf 4096 s len ⌝ }
 {
@@ -105,7 +105,7 @@ fn add(s: Sums, e: RamdumpTable64, names: &[u8]) -> Sums
 
 // Behind the last entry.
 fn finish(s: Sums) -> Foreseen
-    ensures { λ r. ⌜ r ≡ answerOf s ⌝ }
+    ensures { λ r. ⌜ r ≡ foreseenOf s ⌝ }
 {
     if s.refused == 0 {
         return Foreseen::Needs(s.regions, s.bytes, s.reads);
@@ -143,7 +143,7 @@ pub fn forecast_table(table: &[u8], width: Width, names: &[u8]) -> Foreseen
 }
 
 // Of the first n of an array's entries, which are lent here as a list.
-fn lent_entries(entries: [RamdumpTable64; 8], n: usize, names: &[u8]) -> Foreseen
+fn forecast_lent(entries: [RamdumpTable64; 8], n: usize, names: &[u8]) -> Foreseen
     requires { ⌜ n ≤ 8 ⌝ }
     ensures { λ r. ⌜ Tells forecastTold r (forecastOf 4096 (take n entries) (now (names .entry))) ⌝ }
 {
@@ -155,7 +155,7 @@ pub fn forecast_of(entries: [RamdumpTable64; 8], n: usize, names: &[u8]) -> Fore
     ensures { λ r. ⌜ Tells forecastTold r (forecastOf 4096 (take n entries) (now (names .entry))) ⌝ }
 {
     if 8 < n {
-        return lent_entries(entries, 8, names);
+        return forecast_lent(entries, 8, names);
     }
-    lent_entries(entries, n, names)
+    forecast_lent(entries, n, names)
 }

@@ -1,4 +1,5 @@
--- What a session's opening alone decides in a dump: how much one memory read asks for, and whether empty reads are due; and how many memory reads that makes. Document 01, "Session",
+-- What a session's opening alone decides in a dump: how much one memory read asks for, and whether empty reads are due; and how many memory reads so many bytes
+-- take. Document 01, "Session",
 -- *Region*: "send MemRead64 for min(4096, rest)"; "On USB a chunk that is a multiple of 512 makes one empty read due".
 use Prim.Native.Nat.{ℕ, _+_, _-_, _/_}
 use mathlib.Core.Bool.{Bool, true, false}

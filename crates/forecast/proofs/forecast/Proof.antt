@@ -55,7 +55,7 @@ use Rattle.base.proofs.Telling.{tells}
 use Rattle.entry.specs.Entry.{nothing as noEntry}
 use Rattle.entry.specs.declared.RamdumpTable64.{RamdumpTable64}
 use Rattle.forecast.specs.Forecast.{forecastOf, forecastTold}
-use Rattle.forecast.specs.Sums.{startOf, addOf, addAll, answerOf}
+use Rattle.forecast.specs.Sums.{startOf, addOf, addAll, foreseenOf}
 use Rattle.forecast.specs.declared.Sums.{Sums}
 use Rattle.forecast.specs.declared.Foreseen.{Foreseen}
 use Rattle.forecast.proofs.Laws.{sums-are}
@@ -129,11 +129,11 @@ goes-on ys ns t r l e =
     (add-one (t .i))
     ∙ sym (ap (addAll chunk ns (t .sums)) (drop-cons ys (t .i) noEntry l)) ∙ t .so
 
-ends : (ys : List RamdumpTable64) (ns : List ℕ) (t : At ys ns) (a : Foreseen) → length ys < 2 ^ 64 → length ys ≤ t .i → a ≡ answerOf (t .sums)
+ends : (ys : List RamdumpTable64) (ns : List ℕ) (t : At ys ns) (a : Foreseen) → length ys < 2 ^ 64 → length ys ≤ t .i → a ≡ foreseenOf (t .sums)
     → Tells forecastTold a (forecastOf chunk ys ns)
 unfolding addAll
 ends ys ns t a h l e =
-    tells forecastTold (e ∙ ap answerOf (sym (ap (addAll chunk ns (t .sums)) (drop-of-length-le ys l)) ∙ t .so) ∙ sums-are chunk ns ys h)
+    tells forecastTold (e ∙ ap foreseenOf (sym (ap (addAll chunk ns (t .sums)) (drop-of-length-le ys l)) ∙ t .so) ∙ sums-are chunk ns ys h)
 
 -- ---- the calls
 module _ {M : Type 1} (𝓤 : URA M) (H : Heap 𝓤) (A : Atoms 𝓤) (mem : Memory → SProp 𝓤) (run : Routine → Fun 𝓤) where
@@ -185,8 +185,8 @@ module _ {M : Type 1} (𝓤 : URA M) (H : Heap 𝓤) (A : Atoms 𝓤) (mem : Mem
   goes-finish : Given 𝓤 H A → (s : Sums) (u : Val) → ent 𝓤 (sem 𝓤 H A (S.the-row .own s (u ∷ []))) (Finish .pre (to-finish s u))
   goes-finish W s u = qed W (‵ (S.the-row .own s (u ∷ [])) ∷ []) ∵ nothing ! $ move ! (1 ∷ 0 ∷ []) $ fjoin ! $ nothing ! $ join ! $ frame ! $ done !
 
-  finish-said : (s : Sums) (r : Foreseen) → ent 𝓤 (ensured 𝓤 H A finish.ended (finish.clauses 𝓤 H A mem run) tt (s, tt) tt r) (fact 𝓤 (r ≡ answerOf s))
-  finish-said s r = exE 𝓤 _ (λ ws. snd∗ 𝓤 (sem 𝓤 H A (lasts finish.ended tt (s, tt) ws)) (fact 𝓤 (r ≡ answerOf s)))
+  finish-said : (s : Sums) (r : Foreseen) → ent 𝓤 (ensured 𝓤 H A finish.ended (finish.clauses 𝓤 H A mem run) tt (s, tt) tt r) (fact 𝓤 (r ≡ foreseenOf s))
+  finish-said s r = exE 𝓤 _ (λ ws. snd∗ 𝓤 (sem 𝓤 H A (lasts finish.ended tt (s, tt) ws)) (fact 𝓤 (r ≡ foreseenOf s)))
 
 module _ {M : Type 1} (𝓤 : URA M) (H : Heap 𝓤) (A : Atoms 𝓤) (W : Given 𝓤 H A) (mem : Memory → SProp 𝓤) (run : Routine → Fun 𝓤) (κ κ′ : Lft) (q q′ : Share)
     (b o : ℕ) (γ : GName) (ys : List RamdumpTable64) (names : RefT (List ℕ)) where
@@ -302,8 +302,8 @@ module _ {M : Type 1} (𝓤 : URA M) (H : Heap 𝓤) (A : Atoms 𝓤) (W : Given
         (and-then ! (load ! (from ! (stop !)) (look ! 6 refl)) (no-more !)) (λ u.
         use1 W (later (some (λ (r : Foreseen). (‵ ftrue ⊛ ‵ (R.the-row .own r (u ∷ []))) ⊛ raw (ensured 𝓤 H A finish.ended (finish.clauses 𝓤 H A mem run) tt
         (t .sums, tt) tt r)))) (id⊢ 𝓤 _) $ await ! tt $ pick ! (λ r.
-        split ! $ move ! (1 ∷ []) $ use1 W (raw (fact 𝓤 (r ≡ answerOf (t .sums)))) (finish-said 𝓤 H A mem run (t .sums) r) $
-        heard ! (r ≡ answerOf (t .sums)) (λ e. split ! $ drop ! $
+        split ! $ move ! (1 ∷ []) $ use1 W (raw (fact 𝓤 (r ≡ foreseenOf (t .sums)))) (finish-said 𝓤 H A mem run (t .sums) r) $
+        heard ! (r ≡ foreseenOf (t .sums)) (λ e. split ! $ drop ! $
         -- [the result; es's token; the borrow; what es owns; names' token; what names owns; _3; …]
         peeks ! R.the-row (Is R.the-row) (shows 𝓤 H A R.the-row) r (u ∷ []) (λ is.
         land ! (from ! (stop !)) (init ! 14 refl (EL.lawful R.the-type R′.the-laws 𝓤 H A W tt .typed r _ is .0)) $

@@ -12,10 +12,10 @@ use borrow.Author.Needs.{needs}
 use Rattle.forecast.proofs.forecast_of.Statement.{statement}
 use Rattle.forecast.proofs.forecast_of.Tie as tie
 
-lent-entries-requires : tie.Need-lent-entries-requires
-lent-entries-requires c κs = search needs
+forecast-lent-requires : tie.Need-forecast-lent-requires
+forecast-lent-requires c κs = search needs
 
-eight : (c : tie.After-lent-entries) → length (c .before .before .before .args .entries) ≡ 8
+eight : (c : tie.After-forecast-lent) → length (c .before .before .before .args .entries) ≡ 8
 eight c = search needs
 
 returns : tie.Need-returns
@@ -23,14 +23,14 @@ returns c =
     let a = c .before .before .before .args in
     let l : length (a .entries) ≡ 8 = eight c in
     let e : take 8 (a .entries) ≡ take (a .n) (a .entries) = take-all 8 (a .entries) (omega arith) ∙ sym (take-all (a .n) (a .entries) (omega arith)) in
-    subst (λ (x : List RamdumpTable64). Tells forecastTold (c .lent-entries .result) (forecastOf 4096 x (now (a .names)))) e (c .lent-entries .ensures)
+    subst (λ (x : List RamdumpTable64). Tells forecastTold (c .forecast-lent .result) (forecastOf 4096 x (now (a .names)))) e (c .forecast-lent .ensures)
 
-lent-entries-requires-2 : tie.Need-lent-entries-requires-2
-lent-entries-requires-2 c κs = search needs
+forecast-lent-requires-2 : tie.Need-forecast-lent-requires-2
+forecast-lent-requires-2 c κs = search needs
 
 returns-2 : tie.Need-returns-2
 returns-2 c = search needs
 
 pub forecast-of-spec : {M : Type 1} → statement M
 forecast-of-spec =
-    tie.close (tie.spec lent-entries-requires returns lent-entries-requires-2 returns-2)
+    tie.close (tie.spec forecast-lent-requires returns forecast-lent-requires-2 returns-2)

@@ -12,7 +12,7 @@ use Rattle.entry.specs.declared.EntryAt.{EntryAt}
 use Rattle.entry.proofs.Laws.{entry-found, length-entries}
 use Rattle.base.proofs.Telling.{tells}
 use Rattle.forecast.specs.Forecast.{forecastTold}
-use Rattle.forecast.specs.Sums.{startOf, addOf, addAll, answerOf}
+use Rattle.forecast.specs.Sums.{startOf, addOf, addAll, foreseenOf}
 use Rattle.forecast.specs.declared.Sums.{Sums}
 use Rattle.forecast.proofs.Laws.{from-here, none-more, sums-are}
 use borrow.Author.Needs.{needs}
@@ -84,7 +84,7 @@ returns c =
     ∙ ap (λ (x : Sums). addAll 4096 names x (entriesFrom f t (w .entries-in .result) 0)) (w .before .start .ensures)
     ∙ ap (λ (j : ℕ). addAll 4096 names (startOf names) (entriesFrom f t j 0)) n in
     tells forecastTold
-    (c .finish .ensures ∙ ap answerOf whole
+    (c .finish .ensures ∙ ap foreseenOf whole
     ∙ sums-are 4096 names (entriesOf f t) (rw (length-entries f t (entriesIn f (length t)) 0) (omega arith)))
 
 pub forecast-table-spec : {M : Type 1} → statement M

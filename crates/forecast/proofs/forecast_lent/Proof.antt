@@ -1,4 +1,4 @@
--- `forecast::lent_entries` meets its contract: a walk of its MIR, by hand, as it lends a slice of structs. The array is copied into a local, its first n elements
+-- `forecast::forecast_lent` meets its contract: a walk of its MIR, by hand, as it lends a slice of structs. The array is copied into a local, its first n elements
 -- are lent for a lifetime that the walk makes, `forecast` is called, the lifetime is ended, and the elements come back and are the array again. Of `forecast` the
 -- proof knows its contract alone. Assumes nothing.
 use mathlib.Core.Path.{_≡_, refl, sym, _∙_, subst}
@@ -65,10 +65,10 @@ use Rattle.forecast.proofs.forecast as forecast
 use Rattle.forecast.proofs.forecast.Symbol as forecast-def
 use Rattle.forecast.proofs.forecast.Symbol.{name as #forecast·forecast}
 use Rattle.forecast.proofs.forecast.Met as forecast-thm
-use Rattle.forecast.proofs.lent_entries.Key.{name as #forecast·lent-entries}
-use Rattle.forecast.proofs.lent_entries as lent-entries
-use Rattle.forecast.proofs.lent_entries.Statement as stated
-use Rattle.forecast.proofs.lent_entries.Code as code
+use Rattle.forecast.proofs.forecast_lent.Key.{name as #forecast·forecast-lent}
+use Rattle.forecast.proofs.forecast_lent as forecast-lent
+use Rattle.forecast.proofs.forecast_lent.Statement as stated
+use Rattle.forecast.proofs.forecast_lent.Code as code
 
 -- how many elements the array has, and its type
 abbrev many : ℕ
@@ -77,7 +77,7 @@ many = 8
 abbrev Eight : RattleType
 Eight = Array T.the-row many
 
-abbrev stayed : Stays (lent-entries.ended .signature .params) (lent-entries.ended .kept)
+abbrev stayed : Stays (forecast-lent.ended .signature .params) (forecast-lent.ended .kept)
 stayed = (stay-none (λ _. Eight) yes, (stay-none (λ _. usize) yes, (stay-none-slice (0 ∷ []) tt (plain (λ _. u8)) yes, tt)))
 
 abbrev vals : List RamdumpTable64 → List Val
@@ -150,11 +150,11 @@ module _ {M : Type 1} (𝓤 : URA M) (H : Heap 𝓤) (A : Atoms 𝓤) (W : Given
   abbrev v′ : Val
   v′ = sliceVal (names .ptr) (length (names .now))
 
-  abbrev given : Vals lent-entries.signature (κ, tt)
+  abbrev given : Vals forecast-lent.signature (κ, tt)
   given = (v ∷ [], (vint w64 k ∷ [], (v′ ∷ [], tt)))
 
   abbrev Post : Val → SProp 𝓤
-  Post = walkOf 𝓤 H A lent-entries.ended stayed (lent-entries.clauses 𝓤 H A mem″ run) .post (((κ, tt), (q, tt), tt, (xs, (k, (names, tt))), given), tt)
+  Post = walkOf 𝓤 H A forecast-lent.ended stayed (forecast-lent.clauses 𝓤 H A mem″ run) .post (((κ, tt), (q, tt), tt, (xs, (k, (names, tt))), given), tt)
 
   abbrev OwnN : Fml
   OwnN = ShrSlice (named 0) κ u8 .own names (v′ ∷ [])
@@ -171,14 +171,14 @@ module _ {M : Type 1} (𝓤 : URA M) (H : Heap 𝓤) (A : Atoms 𝓤) (W : Given
         (⋆ 𝓤 H A (‵ (R.the-row .own r (u ∷ [])) ∷ Tok ∷ ‵ OwnN ∷ [])) (Post u)
     exits r u e =
         qed W (‵ (R.the-row .own r (u ∷ [])) ∷ Tok ∷ ‵ OwnN ∷ []) ∵
-        suffices ! _ (ends-at 𝓤 H A lent-entries.ended stayed (lent-entries.clauses 𝓤 H A mem″ run) W
+        suffices ! _ (ends-at 𝓤 H A forecast-lent.ended stayed (forecast-lent.clauses 𝓤 H A mem″ run) W
         (((κ, tt), (q, tt), tt, (xs, (k, (names, tt))), given), tt) u r (tt, (tt, (tt, tt))) (tt, (tt, (tt, tt)))) $ says ! e $
         move ! (1 ∷ []) $ frame ! $ nothing ! $ move ! (2 ∷ 0 ∷ []) $ fjoin ! $ owned ! usize (Is usize) (uint-makes 𝓤 H A W w64) k _ (refl, gk) $ fjoin ! $
         owned ! Eight (Is Eight) (array-makes 𝓤 H A W T.the-row (LL.makes T.the-type T′.the-plain 𝓤 H A) many) xs _ p $ fjoin ! $ frame ! $ done !
 
     module _ (C : Calls 𝓤 H) (Λ : Loops 𝓤 H) (fm : FmC 𝓤 H (W .laws) C) (known : Triple 𝓤 (C #forecast·forecast) (Forecast 𝓤 H A mem″ run)) where
       walk : vals xs ≡ v ∷ [] → length xs ≡ many → Room u8 (length (names .now)) → Holds (hasTy (tyArray T′.mir many) v) × WT v → length (take k xs) ≡ k → k ≤ many
-          → ent 𝓤 (onEntry 𝓤 H A lent-entries.signature (κ, tt) (q, tt) (xs, (k, (names, tt))) given) (WpFn 𝓤 H C Λ code.function (v ∷ vint w64 k ∷ v′ ∷ []) Post)
+          → ent 𝓤 (onEntry 𝓤 H A forecast-lent.signature (κ, tt) (q, tt) (xs, (k, (names, tt))) given) (WpFn 𝓤 H C Λ code.function (v ∷ vint w64 k ∷ v′ ∷ []) Post)
       walk ev n gm wt long l =
           qed W (Tok ∷ ‵ (owns (Eight ∷ usize ∷ ShrSlice (named 0) κ u8 ∷ []) (xs, (k, (names, tt))) given) ∷ []) ∵ enter ! C Λ code.function
           (v ∷ vint w64 k ∷ v′ ∷ []) _ $
@@ -225,8 +225,8 @@ module _ {M : Type 1} (𝓤 : URA M) (H : Heap 𝓤) (A : Atoms 𝓤) (W : Given
 
 module _ {M : Type 1} (𝓤 : URA M) (H : Heap 𝓤) (A : Atoms 𝓤) (W : Given 𝓤 H A) (mem″ : Memory → SProp 𝓤) (run : Routine → Fun 𝓤) (𝓣 : Tables 𝓤 H)
     (known : Triple 𝓤 (𝓣 .C #forecast·forecast) (Forecast 𝓤 H A mem″ run)) where
-  lent-entries-walks : Walks 𝓤 H A lent-entries.ended stayed (WpFn 𝓤 H (𝓣 .C) (𝓣 .Λ) code.function) (lent-entries.clauses 𝓤 H A mem″ run)
-  lent-entries-walks = walked 𝓤 H A lent-entries.ended stayed (lent-entries.clauses 𝓤 H A mem″ run) (WpFn 𝓤 H (𝓣 .C) (𝓣 .Λ) code.function)
+  forecast-lent-walks : Walks 𝓤 H A forecast-lent.ended stayed (WpFn 𝓤 H (𝓣 .C) (𝓣 .Λ) code.function) (forecast-lent.clauses 𝓤 H A mem″ run)
+  forecast-lent-walks = walked 𝓤 H A forecast-lent.ended stayed (forecast-lent.clauses 𝓤 H A mem″ run) (WpFn 𝓤 H (𝓣 .C) (𝓣 .Λ) code.function)
       (λ κs. (vals, (uint-vals w64, (slice-vals, tt))))
       (λ κs. (
         array-tells T.the-row (LL.vals T.the-type T′.the-laws) (LL.tells T.the-type T′.the-laws) many,
@@ -238,8 +238,8 @@ module _ {M : Type 1} (𝓤 : URA M) (H : Heap 𝓤) (A : Atoms 𝓤) (W : Given
       (array-typed T.the-row (LL.lawful T.the-type T′.the-laws 𝓤 H A W .typed) many (a .0) _ (are .0) .0)
       (length-take-le (a .1 .0) (a .0) (subst (λ (m : ℕ). a .1 .0 ≤ m) (sym (are .0 .1 .0 .1)) l)) l))
 
-  lent-entries-meets : Meets 𝓤 H A lent-entries.signature (WpFn 𝓤 H (𝓣 .C) (𝓣 .Λ) code.function) (lent-entries.spec 𝓤 H A mem″ run)
-  lent-entries-meets = walk-meets 𝓤 H A lent-entries.ended stayed W (
+  forecast-lent-meets : Meets 𝓤 H A forecast-lent.signature (WpFn 𝓤 H (𝓣 .C) (𝓣 .Λ) code.function) (forecast-lent.spec 𝓤 H A mem″ run)
+  forecast-lent-meets = walk-meets 𝓤 H A forecast-lent.ended stayed W (
     goes-none 𝓤 H A W 1 (λ _. Eight) yes (λ κs x f. refl),
     (
       goes-none 𝓤 H A W 1
@@ -247,13 +247,13 @@ module _ {M : Type 1} (𝓤 : URA M) (H : Heap 𝓤) (A : Atoms 𝓤) (W : Given
       (goes-none-slice 𝓤 H A W 1 (0 ∷ []) tt (plain (λ _. u8)) yes, tt),
     ),
   )
-      (lent-entries.clauses 𝓤 H A mem″ run) (WpFn 𝓤 H (𝓣 .C) (𝓣 .Λ) code.function) (WpFn-mono 𝓤 H (W .laws) 𝓣 code.function) lent-entries-walks
+      (forecast-lent.clauses 𝓤 H A mem″ run) (WpFn 𝓤 H (𝓣 .C) (𝓣 .Λ) code.function) (WpFn-mono 𝓤 H (W .laws) 𝓣 code.function) forecast-lent-walks
 
-pub lent-entries-spec : {M : Type 1} → stated.statement M
+pub forecast-lent-spec : {M : Type 1} → stated.statement M
 unfolding code.routine tablesOf
-lent-entries-spec 𝓤 H 𝓜 𝓖 𝓡 =
-    entered 𝓤 H (tripleOf 𝓤 H (𝓖 .A) lent-entries.signature (lent-entries.spec 𝓤 H (𝓖 .A) (𝓜 .mem) (𝓡 .run)))
-    (tables 𝓤 H 𝓜 𝓡 code.env .C) (tables 𝓤 H 𝓜 𝓡 code.env .Λ) #forecast·lent-entries code.function (code.unfolded 𝓤 H 𝓜 𝓡)
-    (lent-entries-meets 𝓤 H (𝓖 .A) (givenOf 𝓤 H 𝓜 𝓖) (𝓜 .mem) (𝓡 .run) (tablesOf 𝓤 H 𝓜 (tables 𝓤 H 𝓜 𝓡 code.env))
+forecast-lent-spec 𝓤 H 𝓜 𝓖 𝓡 =
+    entered 𝓤 H (tripleOf 𝓤 H (𝓖 .A) forecast-lent.signature (forecast-lent.spec 𝓤 H (𝓖 .A) (𝓜 .mem) (𝓡 .run)))
+    (tables 𝓤 H 𝓜 𝓡 code.env .C) (tables 𝓤 H 𝓜 𝓡 code.env .Λ) #forecast·forecast-lent code.function (code.unfolded 𝓤 H 𝓜 𝓡)
+    (forecast-lent-meets 𝓤 H (𝓖 .A) (givenOf 𝓤 H 𝓜 𝓖) (𝓜 .mem) (𝓡 .run) (tablesOf 𝓤 H 𝓜 (tables 𝓤 H 𝓜 𝓡 code.env))
     (cited 𝓤 H (Forecast 𝓤 H (𝓖 .A) (𝓜 .mem) (𝓡 .run)) 𝓜 𝓡 code.env #forecast·forecast forecast-def.routine code.calls-forecast·forecast
     (forecast-thm.met 𝓤 H 𝓜 𝓖 𝓡)))
