@@ -16,15 +16,17 @@ use Rattle.verdict.specs.declared.Opening.{Opening}
 use Rattle.forecast.proofs.Laws.{needs-are}
 use Rattle.session.specs.declared.Phase.{Phase}
 use Rattle.session.specs.declared.Phase.the-variants as P
+
 use Rattle.session.specs.declared.Session.{Session}
 use Rattle.session.specs.declared.Answer.{Answer}
 use Rattle.session.specs.declared.Answer.the-variants as A
+
 use Rattle.session.specs.Outcome.{isEnded}
 use Rattle.session.specs.Step.{stepOf}
 use Rattle.steps.specs.Steps.{final, Throughout}
 use Rattle.steps.proofs.Steps.{outs-append, throughout-first, throughout-second}
 use Rattle.fetch.specs.Plain.{Report, byte, finished, Setting}
-use Rattle.fetch.specs.Device.{definitions, Thing, own, other, isOwn, Lent, lent, delivered, kept, reportsFor, World, start, made, next, reported}
+use Rattle.fetch.specs.Device.{definitions, Lent, lent, delivered, kept, reportsFor, World, start, made}
 use Rattle.fetch.specs.Claim.{reports}
 use Rattle.fetch.specs.Meaning.{howMany}
 use Rattle.fetch.proofs.Sent.{many-append}
