@@ -16,11 +16,9 @@ use Rattle.verdict.specs.declared.Opening.{Opening}
 use Rattle.forecast.proofs.Laws.{needs-are}
 use Rattle.session.specs.declared.Phase.{Phase}
 use Rattle.session.specs.declared.Phase.the-variants as P
-
 use Rattle.session.specs.declared.Session.{Session}
 use Rattle.session.specs.declared.Answer.{Answer}
 use Rattle.session.specs.declared.Answer.the-variants as A
-
 use Rattle.session.specs.Outcome.{isEnded}
 use Rattle.session.specs.Step.{stepOf}
 use Rattle.steps.specs.Steps.{final, Throughout}
