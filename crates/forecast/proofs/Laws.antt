@@ -83,11 +83,12 @@ module _ (c : ℕ) (names : List ℕ) where
       es)
       ≡ judged (n + suc (regionsNeeded names es)) (b + (l + bytesNeeded names es)) (r + (k + reads es))
   one-more es n b r l k h f =
-      by-test (passes (b + l))
-      (λ i. rw i (refused-27 es) ∙ sym (judged-bytes (n + suc (regionsNeeded names es)) (b + (l + bytesNeeded names es)) (r + (k + reads es)) (passes-more (b + l) (b + (l + bytesNeeded names es)) i (omega arith))))
+      let x : ℕ = n + suc (regionsNeeded names es) in
+      let y : ℕ = b + (l + bytesNeeded names es) in
+      let z : ℕ = r + (k + reads es) in
+      by-test (passes (b + l)) (λ i. rw i (refused-27 es) ∙ sym (judged-bytes x y z (passes-more (b + l) y i (omega arith))))
       (λ i.
-      by-test (passes (r + k))
-      (λ j. rw (i, j) (refused-27 es) ∙ sym (judged-reads (n + suc (regionsNeeded names es)) (b + (l + bytesNeeded names es)) (r + (k + reads es)) (passes-more (r + k) (r + (k + reads es)) j (omega arith))))
+      by-test (passes (r + k)) (λ j. rw (i, j) (refused-27 es) ∙ sym (judged-reads x y z (passes-more (r + k) z j (omega arith))))
       (λ j.
       let m : (n + 1) % 2 ^ 64 ≡ n + 1 = mod-eq-of-lt h in
       let g : n + suc (regionsNeeded names es) ≡ n + 1 + regionsNeeded names es = omega arith in
