@@ -209,7 +209,8 @@ decoded-inside WI.Bits64 = refl
 
 -- two regions, 5 bytes, two memory reads
 forecast : (v : Width) → forecastOf (chunkOf (board .opening)) (entries v) (board .names) ≡ F.Needs 2 5 2
-unfolding forecastOf isSelected selectedOf summed chunkOf wellFormed slotsGood slotOf stemOf before low namesFrom same member has goesOn leads afterFirst table fields le leBytes
+unfolding forecastOf isSelected selectedOf summed chunkOf wellFormed slotsGood slotOf stemOf before low namesFrom same member has goesOn leads afterFirst table
+    fields le leBytes
 forecast WI.Bits32 = refl
 forecast WI.Bits64 = refl
 
