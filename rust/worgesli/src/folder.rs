@@ -335,13 +335,13 @@ impl Sink for Folder {
         if self.limit == u64::MAX {
             return Ok(());
         }
-        let written = self.written();
-        let to_come = match forecast {
-            Ok(f) if f.regions == 0 || written.saturating_add(f.bytes) <= self.limit => return Ok(()),
-            Ok(f) => format!("{} regions with {} bytes are to be fetched", f.regions, f.bytes),
-            Err(why) => why.to_string(),
+        let (limit, sum) = (self.limit, |f: &Forecast| self.written().saturating_add(f.bytes));
+        let what = match forecast {
+            Ok(f) if f.regions == 0 || sum(&f) <= limit => return Ok(()),
+            Ok(f) => format!("(regions: {}, bytes: {}) would bring the sum of lengths to {}", f.regions, f.bytes, sum(&f)),
+            Err(why) => format!("is {why}"),
         };
-        let why = format!("{to_come}; {written} bytes are written, and the limit is {}", self.limit);
+        let why = format!("what is still to be fetched {what}, above the limit of {limit}");
         Err(io::Error::new(ErrorKind::QuotaExceeded, why))
     }
 

@@ -39,10 +39,8 @@ fn refused_before_a_byte() {
         for limit in [0, 1, 13_606, 13_607] {
             sink.set_limit(limit);
             let why = quota(run.run(&mut wire, &mut sink, |_| ()));
-            assert_eq!(
-                why,
-                format!("3 regions with 13608 bytes are to be fetched; 0 bytes are written, and the limit is {limit}")
-            );
+            let due = "what is still to be fetched (regions: 3, bytes: 13608) would bring the sum of lengths to 13608";
+            assert_eq!(why, format!("{due}, above the limit of {limit}"));
             assert_eq!((wire.device.reads(), sink.regions().len()), (1, 0));
             // the list of regions is there, for who chooses among them
             assert_eq!(t.names(), ["manifest~1.tsv", "regions~1.txt"]);
@@ -63,7 +61,7 @@ fn fewer_names() {
         let mut run = w.options().start().unwrap();
         quota(run.run(&mut wire, &mut sink, |_| ()));
         run.set_names(NameList::new(&["a", "b"]).unwrap());
-        assert!(quota(run.run(&mut wire, &mut sink, |_| ())).starts_with("2 regions with 13608 bytes "));
+        assert!(quota(run.run(&mut wire, &mut sink, |_| ())).contains("(regions: 2, bytes: 13608)"));
         run.set_names(NameList::new(&["b", "x"]).unwrap());
         assert_eq!(run.run(&mut wire, &mut sink, |_| ()).unwrap(), Outcome::Dumped { reads: 3 });
         assert_eq!(files(&t), [("B.BIN".to_owned(), 4608)]);
@@ -80,7 +78,7 @@ fn absurd_lengths() {
     let (_, mut wire, mut run) = start(Width::Bits64, &regions, Faults { ends_after: Some(came), ..Faults::default() });
     let mut sink = Folder::new(t.dump()).unwrap().limit(u64::MAX - 1);
     let why = quota(run.run(&mut wire, &mut sink, |_| ()));
-    assert!(why.starts_with("refused (27): ") && why.ends_with(&format!("the limit is {}", u64::MAX - 1)), "{why}");
+    assert!(why.contains("is refused (27): ") && why.ends_with(&format!("above the limit of {}", u64::MAX - 1)), "{why}");
     assert_eq!((wire.device.reads(), files(&t)), (1, vec![]));
     sink.set_limit(u64::MAX);
     assert!(matches!(run.run(&mut wire, &mut sink, |_| ()), Err(Error::NoBytes)));
@@ -90,10 +88,8 @@ fn absurd_lengths() {
     run.set_names(NameList::new(&["c"]).unwrap());
     sink.set_limit(1 << 63);
     let why = quota(run.run(&mut wire, &mut sink, |_| ()));
-    assert_eq!(
-        why,
-        format!("1 regions with {0} bytes are to be fetched; 5700 bytes are written, and the limit is {0}", 1u64 << 63)
-    );
+    let sum = (1u64 << 63) + 5700;
+    assert!(why.contains(&format!("(regions: 1, bytes: {}) would bring the sum of lengths to {sum}, ", 1u64 << 63)), "{why}");
 }
 
 /// Goes on in another process from behind each step, under a limit of just the whole: no region counts twice. Under one byte less the next region is refused: between
@@ -121,7 +117,7 @@ fn another_process() {
             let end = run.run(&mut wire, &mut sink, |_| ());
             if !fits {
                 let why = quota(end);
-                assert!(open || why.contains(" are to be fetched; "), "{steps} steps: {why}");
+                assert!(open || why.contains("still to be fetched (regions: "), "{steps} steps: {why}");
                 assert_eq!(sink.regions().len(), whole + usize::from(open), "{steps} steps");
                 refused += 1;
                 sink.set_limit(13_608);
@@ -166,7 +162,8 @@ fn another_folder() {
             run.step(&mut wire, &mut sink, |_| ()).unwrap();
         }
         let mut sink = Folder::new(other.dump()).unwrap().limit(4607);
-        assert!(quota(run.run(&mut wire, &mut sink, |_| ())).starts_with("2 regions with 4608 bytes "));
+        assert!(quota(run.run(&mut wire, &mut sink, |_| ()))
+            .contains("(regions: 2, bytes: 4608) would bring the sum of lengths to 4608,"));
         sink.set_limit(4608);
         run.run(&mut wire, &mut sink, |_| ()).unwrap();
         assert_eq!((files(&t).len(), files(&other).len()), (1, 2));
@@ -189,7 +186,8 @@ fn nothing_to_come() {
         assert_eq!(run.run(&mut self::wire(&w, 2), &mut sink, |_| ()).unwrap(), Outcome::Dumped { reads: 1 });
         // an empty region more is refused, as its open would be
         let mut run = w.options().names(["c"]).start().unwrap();
-        assert!(quota(run.run(&mut self::wire(&w, 2), &mut sink, |_| ())).starts_with("1 regions with 0 bytes "));
+        assert!(quota(run.run(&mut self::wire(&w, 2), &mut sink, |_| ()))
+            .contains("(regions: 1, bytes: 0) would bring the sum of lengths to 13608,"));
         let entry = entry_at(w.memory.table(), host_width(width), 2).unwrap();
         assert_eq!(sink.open(2, &entry).unwrap_err().kind(), ErrorKind::QuotaExceeded);
     }
