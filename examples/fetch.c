@@ -6,10 +6,10 @@
  * speed stays as it is. Each selected region goes to a file of its own in FOLDER, which is made if need be: to FILE.part while its bytes come, and under
  * its final name only when it is whole and on the disk. A NAME is a filename up to its first '.', in any case ("ocimem"); with none, the device's
  * preference decides. Before the first region the device's list of all of them goes to standard output: filename, base, length, and '*' where the device
- * prefers the region; then how large the fetch will be. -m: where that is more than so many bytes, nothing of it is fetched (-m 0 shows what there is).
- * -u: the device follows the rules of USB. -t: how long a silent device is waited for at a time, 5 times in a row. The exit status is 0 when every selected
- * region is whole, there was one, and all is as forecast; 2 for a wrong call, else 1; then what came of a region that is not whole is still there, as FILE.part.
- * The device is not reset.
+ * prefers the region; then how large the fetch will be. -m: where that is more than so many bytes, nothing is fetched (-m 0 shows what there is). -u: the
+ * device follows the rules of USB. -t: how long a silent device is waited for at a time, 5 times in a row. The exit status is 0 when every selected region is
+ * whole, there was one, and all is as forecast; 2 for a wrong call, else 1; then what came of a region that is not whole is still there, as FILE.part. The
+ * device is not reset.
  */
 #define _POSIX_C_SOURCE 200809L
 #include <errno.h>
@@ -207,8 +207,8 @@ static void print_sheet(const uint8_t *table, size_t table_len, uint64_t width)
     fflush(stdout);
 }
 
-/* How large the fetch will be, before a byte of a region is asked for: the end where the caller allows less. Of free space there is only a warning, since there may
- * be more of it, or less, when it is needed. Lengths that have no sum (27) are more than any bound; where none was given, the regions before an absurd one come. */
+/* How large the fetch will be, before a byte of a region is asked for: the end where the caller allows less. Of free space there is only a warning: there may
+ * be more of it, or less, when it is needed. Lengths that have no sum (27) are above every bound; without one, the regions before an absurd one are fetched. */
 static void forecast(const worgesli_lent *lent, size_t table_len, uint64_t width)
 {
     const worgesli_forecast e = f.forecast = worgesli_forecast_table(lent->table, table_len, width, lent->names, lent->names_len);

@@ -1,7 +1,7 @@
 /* System calls of examples/fetch.c that do what they may, linked around it with --wrap. FAULTS is a seed: reads and writes move a part of what they could, are
  * interrupted, find a port that is not ready or, reading, 0 bytes; but no more than 3 times in a row nothing comes. FAIL is CALL:N:ERRNO: the N-th call of
- * that name, and each after it, fails. A write to the port is no `write` there. FREE: so many blocks of 512 bytes are free. FORECAST: a forecast's number of this
- * place, from 0, is one more.
+ * that name, and each after it, fails. A write to the port is no `write` there. FREE: so many blocks of 512 bytes are free. FORECAST is 0, 1 or 2: a forecast's
+ * regions, bytes or memory reads are one more.
  */
 #define _POSIX_C_SOURCE 200809L
 #include <errno.h>

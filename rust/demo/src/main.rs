@@ -1,7 +1,6 @@
-//! Fetches the memory of a simulated device over a socket pair that divides its bytes at random, into files, goes on with a saved run in the
-//! middle of it, and compares the files with the device's memory, the region sheet with its list of regions, and what came with the forecast: once of a device of 64
-//! bits, once of an older one of 32, without being told which it is.
-//! `demo FOLDER [SEED]`; the files go into a new folder in FOLDER.
+//! Fetches the memory of a simulated device over a socket pair that divides its bytes at random, into files, goes on with a saved run in the middle of it, and
+//! compares the files with the device's memory, the region sheet with its list of regions, and what came with the forecast: once of a device of 64 bits, once
+//! of an older one of 32, without being told which it is. `demo FOLDER [SEED]`; the files go into a new folder in FOLDER.
 use device::{Device, Memory, Region, Rng, Socket, Width};
 use std::error::Error;
 use std::path::{Path, PathBuf};
@@ -89,8 +88,8 @@ impl Sink for Counted<'_> {
     }
 }
 
-/// Fetches up to the middle of the first region, then saves the run, as before the box is switched off; gives its bytes, and the manifest's path. When the table is
-/// there it prints the forecast.
+/// Fetches up to the middle of the first region, then saves the run, as before the box is switched off; gives its bytes, and the manifest's path. When the
+/// table is there it prints the forecast.
 fn begin(
     options: &Options,
     host: &mut Socket,

@@ -96,7 +96,8 @@ pub struct Driver {
     pub(crate) table_len: usize,
     /// behind a resync, the memory reads before the one that is not trusted yet; else the greatest number
     pub(crate) doubt: u64,
-    /// the sink of this call knows the table, which is not asked for again then, and the forecast by these names. It is not saved: another process has another sink
+    /// the sink of this call knows the table, which is not asked for again then, and the forecast by these names. It is not saved: another process has another
+    /// sink
     told: bool,
     /// reads, writes and flushes of the channel that succeeded
     moves: u64,
@@ -152,11 +153,12 @@ impl Driver {
         (0..).map_while(|i| entry_at(self.table(), self.session.width(), i))
     }
 
-    /// How large the whole fetch is, by the table and the names as they stand; none before the table came whole, and while a [resync](Driver::resync) has it in doubt.
+    /// How large the whole fetch is, by the table and the names as they stand; none before the table came whole, and while a [resync](Driver::resync) has it in
+    /// doubt.
     ///
-    /// Where it is not refused (27), and the run goes from its beginning to [`Outcome::Dumped`] with these names, it opens so many regions, hands out so many bytes
-    /// and reports so many memory reads: that is proved of the session, whatever the device says. Other [names](Driver::set_names) move it. What is fetched twice,
-    /// behind a resync or where the sink lost a region, comes on top. It stays as it is while regions come, and behind the end.
+    /// Where it is not refused (27), and the run goes from its beginning to [`Outcome::Dumped`] with these names, it opens so many regions, hands out so many
+    /// bytes and reports so many memory reads: that is proved of the session, whatever the device says. Other [names](Driver::set_names) move it. What is
+    /// fetched twice, behind a resync or where the sink lost a region, comes on top. It stays as it is while regions come, and behind the end.
     pub fn forecast(&self) -> Result<Option<Forecast>, Refusal> {
         self.knows_table().then(|| forecast(&self.table[..self.table_len], self.session.width(), &self.names)).transpose()
     }
@@ -223,9 +225,10 @@ impl Driver {
     }
 
     /// Gives up: a table that came whole, is not in doubt and was not told yet is, what was gathered is handed over, a region's close that is owed is made, and
-    /// the session is closed; nothing more is sent. A table that the sink does not take keeps it from nothing but the last of these. No forecast is told: a sink that
-    /// has too little space keeps nobody from giving up. Gives the refusal: 23, or 4 where it had ended.
+    /// the session is closed; nothing more is sent. A table that the sink does not take keeps it from nothing but the last of these. No forecast is told: a
+    /// sink that has too little space keeps nobody from giving up. Gives the refusal: 23, or 4 where it had ended.
     pub fn close<S: Sink + ?Sized>(&mut self, sink: &mut S) -> Result<Refusal, Error> {
+        self.begin();
         let told = self.tell_table(sink);
         self.reopen(sink)?;
         self.hand_over(sink)?;
@@ -259,6 +262,7 @@ impl Driver {
         if !matches!(phase, Phase::Table | Phase::Between | Phase::Region) {
             return Ok(());
         }
+        self.begin();
         // half a packet would spoil the next
         if let Owed::Send(1.., _) | Owed::Flush = self.owed {
             self.settle(channel, sink)?;
@@ -350,8 +354,7 @@ impl Driver {
         S: Sink + ?Sized,
         P: FnMut(Progress),
     {
-        // where no region is open, the sink may be another than the last call's
-        self.told &= self.region != Region::None;
+        self.begin();
         self.settle(channel, sink)?;
         let gathers = sink.gathers().min(INPUT);
         // whether the next step may need bytes. Where it does and is lent none, it only says go. In a region the step before told how many.
@@ -543,6 +546,11 @@ impl Driver {
             Phase::Ended => !self.table_read.is_empty(),
             _ => false,
         }
+    }
+
+    /// A call begins. Where no sink of this process has a region open, its own may be another than the last one's.
+    fn begin(&mut self) {
+        self.told &= self.region == Region::Open;
     }
 
     /// Whether the sink is to be told.

@@ -102,15 +102,15 @@ impl Folder {
     ///
     /// A fetch that does not fit is refused as soon as the table is there, before anything of a region is asked for: where what is written and the
     /// [forecast](Sink::forecast) of the regions still to be opened are more, or that is refused (27). The run goes on under a higher bound, or with fewer
-    /// [names](crate::Driver::set_names). No fetch is refused like this all of whose regions would be opened. `u64::MAX`, which it is unless this says otherwise, is
-    /// no bound: a table with one absurd length still gives the regions before it.
+    /// [names](crate::Driver::set_names). A fetch of which every region would be taken one by one is not refused. `u64::MAX`, which it is unless this says
+    /// otherwise, is no bound: a table with one absurd length still gives the regions before it.
     pub fn limit(mut self, bytes: u64) -> Folder {
         self.set_limit(bytes);
         self
     }
 
-    /// As [`limit`](Folder::limit), between two runs: after a refusal a run goes on under a higher bound. It is looked at when the sink is told the table, or opens a
-    /// region.
+    /// As [`limit`](Folder::limit), between two runs: after a refusal a run goes on under a higher bound. It is looked at when the sink is told the table, or
+    /// opens a region.
     pub fn set_limit(&mut self, bytes: u64) {
         self.limit = bytes;
     }
@@ -298,7 +298,7 @@ impl Folder {
         Ok(())
     }
 
-    /// Bytes that were written so far, the cut ones of regions that were lost among them.
+    /// Bytes that were written so far, those of regions that were lost among them.
     fn written(&self) -> u64 {
         let of = |(line, k): (usize, &Kept)| match &self.current {
             Some(c) if c.line == line => c.written,
@@ -329,8 +329,8 @@ impl Sink for Folder {
         Ok(())
     }
 
-    /// Refused where a region of the rest would be, under the [limit](Folder::limit). Of a region that is open only what is written counts: whether it is gone on with
-    /// or given up is not known here.
+    /// Refused where one of these regions would be, under the [limit](Folder::limit). Of a region that is begun only what is written counts: whether it is gone
+    /// on with is not known here.
     fn forecast(&mut self, forecast: Result<Forecast, Refusal>) -> io::Result<()> {
         if self.limit == u64::MAX {
             return Ok(());

@@ -7,19 +7,19 @@ use std::io::{self, ErrorKind};
 /// goes on.
 pub trait Sink {
     /// The memory table came whole: its bytes, and how wide the numbers in it are. Told before the first region is opened or goes on and, where none is
-    /// chosen, before the end; where no table came, or not all of one, it is not. It may be told more than once: by a call that begins between two regions, whose
+    /// chosen, before the end; where no table came, or not all of one, it is not. It may be told more than once: by a call that begins with no region open, whose
     /// sink may be another, after an error or a panic, by another process that goes on with the run, or of another table, where a run that is older than the
     /// table asked for it again. A sink that wraps another hands it on.
     fn table(&mut self, _table: &[u8], _width: Width) -> io::Result<()> {
         Ok(())
     }
-    /// How large the rest of the fetch is: the regions that the run is still to open, by the names as they stand, with their bytes and memory reads, the table's
-    /// read among these. Before the first region that is all of it ([`Driver::forecast`](crate::Driver::forecast)); of a run that goes on, regions that were closed
-    /// are not in it, and not the one that is open. Refused (27): their bytes, or memory reads, are above 2^64 - 1.
+    /// How large the rest of the fetch is: the regions that the run is still to open, by the names as they stand, with their bytes and memory reads, the
+    /// table's read among these. Before the first region that is all of it ([`Driver::forecast`](crate::Driver::forecast)); of a run that goes on, regions that
+    /// were closed are not in it, and not the one that is open. Refused (27): their bytes, or memory reads, are above 2^64 - 1.
     ///
-    /// Told right behind [`table`](Sink::table), each time that is, but not by a run that is closed, which fetches nothing more; and so before a byte of a region
-    /// is asked for: for a sink that reserves space, or has too little. An error stops the run as one of `table` does, and the next call tells both again;
-    /// so does one behind other [names](crate::Driver::set_names), in a region too. A sink that wraps another hands it on.
+    /// Told right behind [`table`](Sink::table), each time that is, but not by a run that is closed, which fetches nothing more; and so before a byte of a
+    /// region is asked for: for a sink that reserves space, or has too little. An error stops the run as one of `table` does, and the next call tells both
+    /// again; so does one behind other [names](crate::Driver::set_names), in a region too. A sink that wraps another hands it on.
     fn forecast(&mut self, _forecast: Result<Forecast, Refusal>) -> io::Result<()> {
         Ok(())
     }

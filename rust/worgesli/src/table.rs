@@ -73,11 +73,11 @@ pub struct Forecast {
     pub reads: u64,
 }
 
-/// How large the fetch of a table's regions is that these names choose; with no names, of those that the device prefers. Where none is chosen: no region, no byte,
-/// and the table's memory read.
+/// How large the fetch of a table's regions is that these names choose; with no names, of those that the device prefers. Where none is chosen: no region, no
+/// byte, and the table's memory read.
 ///
-/// Refused (27) where the bytes, or the memory reads, are above 2^64 - 1. Nothing else is judged: a region counts that would end the session, for its filename or its
-/// end (19 to 24). [`Driver::forecast`](crate::Driver::forecast) says what it is worth.
+/// Refused (27) where the bytes, or the memory reads, are above 2^64 - 1. Nothing else is judged: a region counts that would end the session, for its filename
+/// or its end (19 to 24). [`Driver::forecast`](crate::Driver::forecast) says what it is worth.
 ///
 /// ```
 /// use worgesli::{forecast, Forecast, NameList, Width};

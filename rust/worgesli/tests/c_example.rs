@@ -503,7 +503,8 @@ fn lengths_without_a_sum() {
     }
 }
 
-/// Less free space than that is warned of, and the fetch is made: by blocks, of which the last may be filled in part. Where it cannot be told there is no warning.
+/// Less free space than that is warned of, and the fetch is made: by blocks, of which the last may be filled in part. Where it cannot be told there is no
+/// warning.
 #[test]
 fn free_space() {
     let Some(_) = example(Build::Checked) else { return };

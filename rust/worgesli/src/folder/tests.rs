@@ -683,8 +683,8 @@ fn takes(folder: &mut Folder, limit: u64, bytes: u64) -> bool {
     }
 }
 
-/// What counts beside a forecast is what was written, as when a region is opened: of whole regions, of those that were lost, and of the open one; also in a folder
-/// that is resumed.
+/// What counts beside a forecast is what was written, as when a region is opened: of whole regions, of those that were lost, and of the open one; also in a
+/// folder that is resumed.
 #[test]
 fn forecast_and_what_was_written() {
     let world = World::new();

@@ -316,8 +316,8 @@ fn for_the_owner_alone() {
     }
 }
 
-/// A sink of its own that a limit is told region by region: each would bring the sum above it, or not. With more allowed it goes on. (What a limit does to a run
-/// stands in forecast_files.rs.)
+/// A sink of its own that a limit is told region by region: each would bring the sum above it, or not. With more allowed it goes on. (What a limit does to a
+/// run stands in forecast_files.rs.)
 #[test]
 fn limit() {
     for width in Width::BOTH {

@@ -1,5 +1,5 @@
-//! How large a fetch is: the function beside numbers written out and a count of this file, the driver's forecast beside what its fetch came to, and what a sink is
-//! told of it and may refuse.
+//! How large a fetch is: the function beside numbers written out and a count of this file, the driver's forecast beside what its fetch came to, and what a sink
+//! is told of it and may refuse.
 use crate::guard::{Guarded, Side};
 use crate::resync::{bytes_of, two_regions, Pauses};
 use crate::world::{host_width, world, worlds, Cut, Record, World};
@@ -442,6 +442,9 @@ struct Ear<S> {
     heard: Vec<Heard>,
     wrong: Vec<Wrong>,
     room: u64,
+    /// bytes are taken
+    takes: bool,
+    gathers: usize,
     /// regions that were opened, and not lost again
     have: BTreeSet<usize>,
     /// one close or reopen in so many loses its region; one open in so many fails
@@ -450,7 +453,8 @@ struct Ear<S> {
 
 impl<S> Ear<S> {
     fn new(to: S) -> Ear<S> {
-        Ear { to, heard: Vec::new(), wrong: Vec::new(), room: u64::MAX, have: BTreeSet::new(), loses: None }
+        let (heard, wrong, have) = (Vec::new(), Vec::new(), BTreeSet::new());
+        Ear { to, heard, wrong, room: u64::MAX, takes: true, gathers: 0, have, loses: None }
     }
 
     fn loses(&mut self) -> bool {
@@ -488,7 +492,10 @@ impl<S: Sink> Sink for Ear<S> {
         self.to.open(place, entry)
     }
     fn bytes(&mut self, bytes: &[u8]) -> io::Result<usize> {
-        self.to.bytes(bytes)
+        match self.takes {
+            true => self.to.bytes(bytes),
+            false => Err(ErrorKind::StorageFull.into()),
+        }
     }
     fn close(&mut self, place: usize) -> Result<(), Unkept> {
         self.heard.push(Heard::Close(place));
@@ -505,6 +512,9 @@ impl<S: Sink> Sink for Ear<S> {
             return Err(Unkept::Lost(ErrorKind::Other.into()));
         }
         self.to.reopen(place, entry, taken)
+    }
+    fn gathers(&self) -> usize {
+        self.gathers
     }
 }
 
@@ -525,13 +535,17 @@ fn told_behind_the_table() {
         .unwrap();
         let regions = w.selected().into_iter().flat_map(|p| [Heard::Open(p), Heard::Close(p)]);
         let due: Vec<Heard> = [Heard::Table, Heard::Forecast(Ok(w.forecast()))].into_iter().chain(regions).collect();
-        assert_eq!(sink.heard, due, "seed {seed}, {w:?}");
         assert_eq!((sink.to.opened, sink.to.bytes), (w.forecast().regions, w.forecast().bytes));
+        // and nothing behind the end, also with other names
+        run.set_names(names(&["a"]));
+        assert_eq!(run.run(&mut wire, &mut sink, |_| ()).unwrap_err().number(), Some(4));
+        assert_eq!(run.close(&mut sink).unwrap().number(), 4);
+        assert_eq!(sink.heard, due, "seed {seed}, {w:?}");
     }
 }
 
-/// By each call that begins between two regions, by another process in a region too, and behind other calls that failed: what is told is what is still to be opened,
-/// a region that was lost among it.
+/// By each call that begins between two regions, by another process in a region too, and behind other calls that failed: what is told is what is still to be
+/// opened, a region that was lost among it.
 #[test]
 fn told_what_is_to_come() {
     let (mut told, mut lost, mut all_told) = (0, 0, BTreeSet::new());
@@ -579,8 +593,8 @@ fn told_what_is_to_come() {
     assert!(told > 1000 && lost > 70 && all_told.len() > 5, "{told} {lost} {all_told:?}");
 }
 
-/// A sink that does not take it: each call says so before anything of a region is asked for, and tells both anew; then the run goes on. One that is interrupted is
-/// told in the same call.
+/// A sink that does not take it: each call says so before anything of a region is asked for, and tells both anew; then the run goes on. One that is interrupted
+/// is told in the same call.
 #[test]
 fn a_sink_that_refuses() {
     for ((wrong, steps), width) in device::Width::with_both([
@@ -647,6 +661,31 @@ fn refused_in_a_region() {
             assert_eq!(sink.heard[..3], [Heard::Table, Heard::Forecast(Ok(w.forecast_from(1))), Heard::Reopen(0)]);
             assert!(sink.to.0 .0 == w.kept() && wire.device.wrong().is_none());
         }
+    }
+}
+
+/// The same in the process that opened the region, behind other names: each call tells it anew, until it is taken.
+#[test]
+fn refused_in_an_open_region() {
+    for (wrong, width) in device::Width::with_both([Wrong::Full, Wrong::Panic]) {
+        let w = two_regions(width, Backend::Usb);
+        let (mut wire, mut sink) = (wire(&w, Division::AtMost(1000), 1), Ear::new(Record::default()));
+        let mut run = w.options().start().unwrap();
+        while run.session().raw().done < 5000 {
+            run.step(&mut wire, &mut sink, |_| ()).unwrap();
+        }
+        run.set_names(names(&["a", "b"]));
+        (sink.heard, sink.wrong) = (vec![], vec![wrong; 3]);
+        let asked = (wire.device.reads(), run.session().raw().done);
+        for _ in 0..3 {
+            let end = catch_unwind(AssertUnwindSafe(|| run.run(&mut wire, &mut sink, |_| ())));
+            assert!(end.map_or(wrong == Wrong::Panic, |end| is_full(&end.unwrap_err())));
+            assert_eq!((wire.device.reads(), run.session().raw().done), asked);
+        }
+        assert_eq!(run.run(&mut wire, &mut sink, |_| ()).unwrap(), Outcome::Dumped { reads: 6 });
+        let told = [Heard::Table, Heard::Forecast(Ok(of(1, 4608, 3)))].repeat(4);
+        assert_eq!(sink.heard, [told, vec![Heard::Close(0), Heard::Open(1), Heard::Close(1)]].concat());
+        assert!(sink.to.0 == w.kept()[..2]);
     }
 }
 
@@ -722,13 +761,31 @@ fn given_up() {
             (sink.room, run) = (0, w.options().restore(&run.save()).unwrap());
             assert_eq!([23, 4, 4].map(|n| run.close(&mut sink).unwrap().number() == n), [true; 3]);
             assert_eq!(sink.forecasts(), Vec::<&Result<Forecast, Refusal>>::new(), "{steps} steps");
-            assert_eq!(sink.heard.first(), known.is_some().then_some(&Heard::Table));
+            let tables = sink.heard.iter().filter(|h| **h == Heard::Table).count();
+            assert_eq!(
+                (sink.heard.first(), tables),
+                (known.map(|_| &Heard::Table), usize::from(known.is_some())),
+                "{steps} steps"
+            );
             assert_eq!(run.forecast(), Ok(known));
             let came = wire.given.saturating_sub(w.opening() + w.memory.table_len());
             assert_eq!(sink.to.0.iter().map(|r| r.bytes.len() as u64).sum::<u64>(), came, "{steps} steps");
         }
+        // who is kept from it by something else, and goes on, is told the forecast then
+        let (mut wire, mut sink) =
+            (self::wire(&w, Division::AtMost(300), 1), Ear { gathers: 65_536, ..Ear::new(Record::default()) });
+        let mut run = w.options().start().unwrap();
+        while run.session().raw().done < 5000 {
+            run.step(&mut wire, &mut sink, |_| ()).unwrap();
+        }
+        run.set_names(names(&[]));
+        (sink.takes, sink.heard) = (false, vec![]);
+        assert!(is_full(&run.close(&mut sink).unwrap_err()));
+        sink.takes = true;
+        run.step(&mut wire, &mut sink, |_| ()).unwrap();
+        assert_eq!(sink.heard, [Heard::Table, Heard::Table, Heard::Forecast(Ok(w.forecast_from(1)))]);
         // and where it refused before
-        let (mut wire, mut sink) = (wire(&w, Division::Random, 1), Ear::new(Record::default()));
+        let (mut wire, mut sink) = (self::wire(&w, Division::Random, 1), Ear::new(Record::default()));
         let mut run = w.options().start().unwrap();
         sink.room = 100;
         assert!(is_full(&run.run(&mut wire, &mut sink, |_| ()).unwrap_err()));

@@ -92,8 +92,8 @@ fn absurd_lengths() {
     assert!(why.contains(&format!("(regions: 1, bytes: {}) would bring the sum of lengths to {sum}, ", 1u64 << 63)), "{why}");
 }
 
-/// Goes on in another process from behind each step, under a limit of just the whole: no region counts twice. Under one byte less the next region is refused: between
-/// two regions by the forecast, and in one when it is closed.
+/// Goes on in another process from behind each step, under a limit of just the whole: no region counts twice. Under one byte less the next region is refused:
+/// between two regions by the forecast, and in one when it is closed.
 #[test]
 fn another_process() {
     for width in Width::BOTH {
@@ -227,8 +227,8 @@ impl Sink for Through<'_> {
     }
 }
 
-/// A folder and a run with a past, by a seed: fetches into it that ended or were left in the middle, processes before, older runs, other names. Gives whether the run
-/// is at its beginning, and the folder has no region that is begun and not whole.
+/// A folder and a run with a past, by a seed: fetches into it that ended or were left in the middle, processes before, older runs, other names. Gives whether
+/// the run is at its beginning, and the folder has no region that is begun and not whole.
 fn with_a_past(w: &World, rng: &mut Rng, t: &Temporary) -> (Folder, Wire, Driver, bool) {
     let mut sink = Folder::new(t.dump()).unwrap().sheet(false).digests(false);
     let start = |seed| (Wire::new(Device::dump(w.memory.clone()), Division::AtMost(3000), seed), w.options().start().unwrap());
