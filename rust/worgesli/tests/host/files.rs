@@ -15,21 +15,19 @@ pub struct Temporary(pub PathBuf);
 
 impl Temporary {
     pub fn new() -> Temporary {
-        static NEXT: AtomicU32 = AtomicU32::new(0);
-        let n = NEXT.fetch_add(1, Ordering::Relaxed);
-        let path = std::env::temp_dir().join(format!("worgesli-test-{}-{n}", std::process::id()));
-        fs::create_dir(&path).unwrap();
-        Temporary(path)
+        Temporary::within(&std::env::temp_dir()).unwrap()
     }
 
     /// In memory, where that can be had: for tests that sync some thousand files.
     pub fn in_memory() -> Temporary {
-        let t = Temporary::new();
-        let memory = Path::new("/dev/shm").join(t.0.file_name().unwrap());
-        match fs::create_dir(&memory) {
-            Ok(()) => Temporary(memory),
-            Err(_) => t,
-        }
+        Temporary::within("/dev/shm".as_ref()).unwrap_or_else(|_| Temporary::new())
+    }
+
+    fn within(folder: &Path) -> std::io::Result<Temporary> {
+        static NEXT: AtomicU32 = AtomicU32::new(0);
+        let n = NEXT.fetch_add(1, Ordering::Relaxed);
+        let path = folder.join(format!("worgesli-test-{}-{n}", std::process::id()));
+        fs::create_dir(&path).map(|()| Temporary(path))
     }
 
     pub fn dump(&self) -> PathBuf {

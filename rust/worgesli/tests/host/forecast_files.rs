@@ -33,7 +33,7 @@ fn files(t: &Temporary) -> Vec<(String, usize)> {
 fn refused_before_a_byte() {
     for width in Width::BOTH {
         let w = two_regions(width, Backend::Usb);
-        let (t, mut wire) = (Temporary::new(), wire(&w, 1));
+        let (t, mut wire) = (Temporary::in_memory(), wire(&w, 1));
         let mut sink = Folder::new(t.dump()).unwrap().limit(0);
         let mut run = w.options().start().unwrap();
         for limit in [0, 1, 13_606, 13_607] {
@@ -56,7 +56,7 @@ fn refused_before_a_byte() {
 fn fewer_names() {
     for width in Width::BOTH {
         let w = two_regions(width, Backend::Usb);
-        let (t, mut wire) = (Temporary::new(), wire(&w, 1));
+        let (t, mut wire) = (Temporary::in_memory(), wire(&w, 1));
         let mut sink = Folder::new(t.dump()).unwrap().limit(5000);
         let mut run = w.options().start().unwrap();
         quota(run.run(&mut wire, &mut sink, |_| ()));
@@ -73,7 +73,7 @@ fn fewer_names() {
 #[test]
 fn absurd_lengths() {
     let regions = [Region::new("A.BIN", 0, 5000), Region::new("B.BIN", 0, 1 << 63), Region::new("C.BIN", 0, 1 << 63)];
-    let t = Temporary::new();
+    let t = Temporary::in_memory();
     let came = 48 + 24 + 3 * 64 + 5000 + 700;
     let (_, mut wire, mut run) = start(Width::Bits64, &regions, Faults { ends_after: Some(came), ..Faults::default() });
     let mut sink = Folder::new(t.dump()).unwrap().limit(u64::MAX - 1);
@@ -100,7 +100,7 @@ fn another_process() {
         let w = two_regions(width, Backend::Usb);
         let mut refused = 0;
         for (less, steps) in (0..).map(|n| (n % 2, n / 2)) {
-            let (t, mut wire) = (Temporary::new(), wire(&w, 1));
+            let (t, mut wire) = (Temporary::in_memory(), wire(&w, 1));
             let (mut run, mut sink) = (w.options().start().unwrap(), Folder::new(t.dump()).unwrap());
             if (0..steps).any(|_| run.step(&mut wire, &mut sink, |_| ()).unwrap().is_some()) {
                 break;
@@ -136,7 +136,7 @@ fn another_process() {
 fn closed_behind_the_last_save() {
     for width in Width::BOTH {
         let w = two_regions(width, Backend::Serial);
-        let (t, mut wire) = (Temporary::new(), wire(&w, 1));
+        let (t, mut wire) = (Temporary::in_memory(), wire(&w, 1));
         let (mut run, mut sink) = (w.options().start().unwrap(), Folder::new(t.dump()).unwrap());
         let mut saved = run.save();
         while sink.regions().first().is_none_or(|k| k.state != State::Whole) {
@@ -156,7 +156,7 @@ fn closed_behind_the_last_save() {
 fn another_folder() {
     for width in Width::BOTH {
         let w = two_regions(width, Backend::Usb);
-        let (t, other, mut wire) = (Temporary::new(), Temporary::new(), wire(&w, 1));
+        let (t, other, mut wire) = (Temporary::in_memory(), Temporary::in_memory(), wire(&w, 1));
         let (mut run, mut sink) = (w.options().start().unwrap(), Folder::new(t.dump()).unwrap());
         while sink.regions().first().is_none_or(|k| k.state != State::Whole) {
             run.step(&mut wire, &mut sink, |_| ()).unwrap();
@@ -175,7 +175,7 @@ fn another_folder() {
 fn nothing_to_come() {
     for width in Width::BOTH {
         let w = two_regions(width, Backend::Usb);
-        let (t, mut wire) = (Temporary::new(), wire(&w, 1));
+        let (t, mut wire) = (Temporary::in_memory(), wire(&w, 1));
         let (mut run, mut sink) = (w.options().start().unwrap(), Folder::new(t.dump()).unwrap());
         while sink.regions().last().is_none_or(|k| k.place < 2 || k.state != State::Whole) {
             assert_eq!(run.step(&mut wire, &mut sink, |_| ()).unwrap(), None);
@@ -294,7 +294,7 @@ fn to_the_end(run: &mut Driver, wire: &mut Wire, sink: &mut impl Sink) -> Result
 #[test]
 fn as_the_opens_would() {
     let (mut seen, mut early) = ([[0; 2]; 2], 0);
-    for (seed, w) in worlds(0..400) {
+    for (seed, w) in worlds(0..300) {
         for turn in 0..3 {
             let runs = || {
                 let (mut rng, t) = (Rng::new(7 * seed + turn), Temporary::in_memory());
@@ -327,7 +327,7 @@ fn as_the_opens_would() {
 #[test]
 fn manifest_of_a_refused_fetch() {
     let w = two_regions(Width::Bits32, Backend::Usb);
-    let t = Temporary::new();
+    let t = Temporary::in_memory();
     let mut sink = Folder::new(t.dump()).unwrap().limit(100);
     quota(w.options().start().unwrap().run(&mut wire(&w, 1), &mut sink, |_| ()));
     let manifest = sink.manifest_path().to_owned();
