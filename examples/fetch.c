@@ -1,14 +1,15 @@
 /* Fetches a device's memory over a descriptor: a host around libworgesli.a.
  *
- *     fetch [-u] [-t MS] PORT FOLDER [NAME...]
+ *     fetch [-u] [-t MS] [-m BYTES] PORT FOLDER [NAME...]
  *
  * The device may be one of 64 bits or an older one of 32. PORT is a path, or the number of a descriptor that was inherited. A terminal is made raw; its
  * speed stays as it is. Each selected region goes to a file of its own in FOLDER, which is made if need be: to FILE.part while its bytes come, and under
  * its final name only when it is whole and on the disk. A NAME is a filename up to its first '.', in any case ("ocimem"); with none, the device's
  * preference decides. Before the first region the device's list of all of them goes to standard output: filename, base, length, and '*' where the device
- * prefers the region. -u: the device follows the rules of USB. -t: how long a silent device is waited for at a time, 5 times in a row. The exit status is
- * 0 when every selected region is whole and there was one, 2 for a wrong call, else 1; then what came of a region that is not whole is still there, as
- * FILE.part. The device is not reset.
+ * prefers the region; then how large the fetch will be. -m: where that is more than so many bytes, nothing is fetched (-m 0 shows what there is). -u: the
+ * device follows the rules of USB. -t: how long a silent device is waited for at a time, 5 times in a row. The exit status is 0 when every selected region is
+ * whole, there was one, and all is as forecast; 2 for a wrong call, else 1; then what came of a region that is not whole is still there, as FILE.part. The
+ * device is not reset.
  */
 #define _POSIX_C_SOURCE 200809L
 #include <errno.h>
@@ -21,6 +22,7 @@
 #include <string.h>
 #include <strings.h>
 #include <sys/stat.h>
+#include <sys/statvfs.h>
 #include <termios.h>
 #include <unistd.h>
 
@@ -31,12 +33,15 @@ enum { BORNE = 5, PAUSE_MS = 100 };
 
 static struct {
     int port, wait_ms, folder;
-    unsigned whole; /* regions */
+    uint64_t most;              /* bytes that may be fetched; UINT64_MAX: as many as there are */
+    worgesli_forecast forecast; /* and what came of it: whole regions, and their bytes */
+    unsigned whole;
+    uint64_t bytes;
     /* the open region: its file (-1: none), its length, how much of it is in the file, and the file's name when it is whole and before */
     int file;
     uint64_t len, kept;
     char name[80], part[88];
-} f = {.wait_ms = 2000, .folder = -1, .file = -1};
+} f = {.wait_ms = 2000, .folder = -1, .most = UINT64_MAX, .file = -1};
 
 /* The end: what is wrong and why (NULL: errno knows), and what became of the open region. */
 static _Noreturn void stop(const char *what, const char *why)
@@ -188,7 +193,7 @@ static void end_region(void)
     }
     close(f.file);
     f.file = -1;
-    f.whole++;
+    f.whole++, f.bytes += f.len;
     printf("%s: %" PRIu64 " bytes\n", f.name, f.len);
 }
 
@@ -202,6 +207,24 @@ static void print_sheet(const uint8_t *table, size_t table_len, uint64_t width)
     fflush(stdout);
 }
 
+/* How large the fetch will be, before a byte of a region is asked for: the end where the caller allows less. Of free space there is only a warning: there may
+ * be more of it, or less, when it is needed. Lengths that have no sum (27) are above every bound; without one, the regions before an absurd one are fetched. */
+static void forecast(const worgesli_lent *lent, size_t table_len, uint64_t width)
+{
+    const worgesli_forecast e = f.forecast = worgesli_forecast_table(lent->table, table_len, width, lent->names, lent->names_len);
+    if (e.refused == 0)
+        printf("forecast: regions %" PRIu64 ", bytes %" PRIu64 ", memory reads %" PRIu64 "\n", e.regions, e.bytes, e.reads);
+    else
+        fprintf(stderr, "fetch: no forecast: %s\n", worgesli_refusal_text(e.refused));
+    fflush(stdout);
+    if (f.most < UINT64_MAX && (e.refused != 0 || e.bytes > f.most))
+        stop("nothing was fetched", "there is more than -m allows");
+    const uint64_t bytes = e.refused == 0 ? e.bytes : UINT64_MAX;
+    struct statvfs s;
+    if (fstatvfs(f.folder, &s) == 0 && s.f_frsize > 0 && bytes / s.f_frsize + (bytes % s.f_frsize != 0) > s.f_bavail)
+        fprintf(stderr, "fetch: warning: only %" PRIu64 " blocks of %" PRIu64 " bytes are free\n", (uint64_t)s.f_bavail, (uint64_t)s.f_frsize);
+}
+
 static void finished(uint64_t how, uint64_t reads)
 {
     static const char *const ends[] = {[WORGESLI_FINISHED_IMAGES_SENT] = "it is done", [WORGESLI_FINISHED_RESET] = "it resets",
@@ -210,7 +233,9 @@ static void finished(uint64_t how, uint64_t reads)
         stop("the device offered no memory", ends[how]);
     if (f.whole == 0)
         stop("nothing was fetched", "the device has no region that is asked for");
-    printf("every selected region is whole: %u, with %" PRIu64 " memory reads\n", f.whole, reads);
+    if (f.forecast.refused == 0 && (f.forecast.regions != f.whole || f.forecast.bytes != f.bytes || f.forecast.reads != reads))
+        stop("what was fetched is not what was forecast", "the table or the names were changed meanwhile");
+    printf("every selected region is whole: regions %u, bytes %" PRIu64 ", memory reads %" PRIu64 "\n", f.whole, f.bytes, reads);
 }
 
 /* Steps until the end, and does all that a step answers before the next. */
@@ -231,8 +256,10 @@ static void fetch(uint32_t backend, const uint8_t *names, size_t names_len)
         const worgesli_placed r = worgesli_step_at(&session, &lent, in + from, to - from);
         switch (r.answer) {
         case WORGESLI_ANSWER_GO:
-            if (session.phase == WORGESLI_PHASE_BETWEEN)
+            if (session.phase == WORGESLI_PHASE_BETWEEN) {
                 print_sheet(table, session.count, session.width);
+                forecast(&lent, session.count, session.width);
+            }
             break;
         case WORGESLI_ANSWER_EMPTY_READ: /* over libusb: a bulk transfer of length 0. A descriptor's driver takes empty packets itself */
             break;
@@ -305,11 +332,17 @@ int main(int argc, char **argv)
 {
     uint32_t backend = WORGESLI_BACKEND_SERIAL;
     bool wrong = false;
-    for (int option; (option = getopt(argc, argv, "ut:")) != -1;) {
-        backend = option == 'u' ? WORGESLI_BACKEND_USB : backend;
-        const size_t digits = option == 't' ? strspn(optarg, "0123456789") : 0;
-        f.wait_ms = digits > 0 ? atoi(optarg) : f.wait_ms;
-        wrong |= option == '?' || (option == 't' && (digits == 0 || digits > 8 || optarg[digits] != 0 || f.wait_ms == 0));
+    for (int option; (option = getopt(argc, argv, "ut:m:")) != -1;) {
+        const size_t digits = option == 't' || option == 'm' ? strspn(optarg, "0123456789") : 0;
+        const bool number = digits > 0 && optarg[digits] == 0;
+        errno = 0;
+        if (option == 'u')
+            backend = WORGESLI_BACKEND_USB;
+        else if (option == 't')
+            f.wait_ms = number && digits < 9 ? atoi(optarg) : 0;
+        else if (option == 'm' && number)
+            f.most = strtoull(optarg, NULL, 10);
+        wrong |= option == '?' || f.wait_ms == 0 || (option == 'm' && (!number || errno != 0));
     }
     worgesli_slot slots[WORGESLI_SLOTS];
     static uint8_t names[1 << 20];
@@ -318,7 +351,7 @@ int main(int argc, char **argv)
         slots[i] = (worgesli_slot){argv[optind + 2 + i], strlen(argv[optind + 2 + i])};
     const size_t names_len = n < 0 ? 0 : worgesli_bundle(slots, (size_t)n, names, sizeof names);
     if (wrong || names_len == 0 || names_len > sizeof names) {
-        fprintf(stderr, "usage: fetch [-u] [-t MS] PORT FOLDER [NAME...], at most %d names\n", WORGESLI_SLOTS);
+        fprintf(stderr, "usage: fetch [-u] [-t MS] [-m BYTES] PORT FOLDER [NAME...], at most %d names\n", WORGESLI_SLOTS);
         return 2;
     }
     take_standard();

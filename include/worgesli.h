@@ -110,7 +110,8 @@ extern "C" {
 #define WORGESLI_KIND_MEM_READ64 0x11u
 #define WORGESLI_KIND_READ_DATA64 0x12u
 
-/* what is refused: number, name (WORGESLI_REFUSED_...) and words (worgesli_refusal_text). 25 is a region sheet's (worgesli_region_sheet), and no step's.
+/* what is refused: number, name (WORGESLI_REFUSED_...) and words (worgesli_refusal_text). 25 is a region sheet's (worgesli_region_sheet), 26 and 27 are a
+ * forecast's (worgesli_forecast_table); no step is refused for these.
  * A step is refused for the first that applies in the order of the requirement, in which 24 stands where 22 does.
  * 1, 2, 3, 4 and 18 are the caller's: session and buffers are as they were, nothing is taken, and once the bundle or buffer is right the step can be made.
  * Each other that a step is refused for ends the session: what was handed out of the open region is as it came, and not all of it. */
@@ -139,7 +140,9 @@ extern "C" {
     X(22, REGION_END, "a region ends above 2^64")                                                                            \
     X(23, CLOSED, "the channel was closed before the end")                                                                   \
     X(24, REGION_END_32, "a region of a 32-bit device ends above 2^32")                                                      \
-    X(25, SHEET_PAGE, "the page has fewer than 57 bytes for each entry of the table")
+    X(25, SHEET_PAGE, "the page has fewer than 57 bytes for each entry of the table")                                        \
+    X(26, FORECAST_NAMES, "the name list of a forecast is malformed")                                                        \
+    X(27, FORECAST_SUM, "the bytes or the memory reads of a forecast are above 2^64 - 1")
 
 /* A session. Numbers that its phase does not use are 0. Keep it as it is: other bits are refused. A copy is a session of its own. */
 typedef struct worgesli_session {
@@ -192,6 +195,14 @@ typedef struct worgesli_sheet {
     size_t written;   /* bytes of the page, from its first on: WORGESLI_SHEET_LINE_LEN for each entry; 0 where it is refused */
     uint32_t refused; /* 0; 25: the page is shorter than that, and is as it was */
 } worgesli_sheet;
+
+/* How large a fetch is. */
+typedef struct worgesli_forecast {
+    uint64_t regions; /* selected */
+    uint64_t bytes;   /* of these regions */
+    uint64_t reads;   /* memory reads, the table's among them */
+    uint32_t refused; /* 0; 26, 27: and all else is 0 */
+} worgesli_forecast;
 
 /* A range of an image set's bytes; refused not 0: why there is none. */
 typedef struct worgesli_range {
@@ -284,6 +295,16 @@ size_t worgesli_next_selected(const uint8_t *table, size_t table_len, uint64_t w
  * behind the last whole one is ignored; a number that is no width is answered as a table without an entry: 0 written, 0 refused. The page may be longer than the
  * sheet: its rest is as it was, and no zero byte is put behind it. Archives of number 2 from before this function do not have it: who uses dlopen looks. */
 worgesli_sheet worgesli_region_sheet(const uint8_t *table, size_t table_len, uint64_t width, uint8_t *page, size_t page_len);
+
+/* How large the fetch will be, for who must reserve space: from a table of this width and the names, a bundle as each step is lent it. The regions that are
+ * selected, the sum of their lengths, and the memory reads: 1 for the table, and for each region its length / 4,096, rounded up. Nothing selected: 0, 0 and 1.
+ * 26 where the names are malformed; else 27 where the bytes or the memory reads are above 2^64 - 1. Names and ends of regions are not judged here (19 to 24): a
+ * region that a step would be refused for counts. A part of an entry behind the last whole one is none; of a number that is no width there is no entry.
+ * Where nothing is refused here, a session from its opening on that finishes (3) opens just so many regions, hands out so many bytes and reports so many
+ * memory reads, whatever its device says: if each step that is not refused is lent these names and the same table buffer, which nobody else writes, and this
+ * is the table that came there. It is there when a step answers go and session.phase is WORGESLI_PHASE_BETWEEN: the first session.count bytes.
+ * Archives of number 2 from before this function do not have it: who uses dlopen looks. */
+worgesli_forecast worgesli_forecast_table(const uint8_t *table, size_t table_len, uint64_t width, const uint8_t *names, size_t names_len);
 
 /* Whether the bytes are UTF-8. */
 bool worgesli_utf8(const uint8_t *bytes, size_t bytes_len);
@@ -413,6 +434,7 @@ WORGESLI_ASSERT(sizeof(worgesli_stepped) == 168, "worgesli_stepped");
 WORGESLI_ASSERT(sizeof(worgesli_placed) == 40, "worgesli_placed");
 WORGESLI_ASSERT(sizeof(worgesli_entry) == 72, "worgesli_entry");
 WORGESLI_ASSERT(sizeof(worgesli_sheet) == 16, "worgesli_sheet");
+WORGESLI_ASSERT(sizeof(worgesli_forecast) == 32, "worgesli_forecast");
 WORGESLI_ASSERT(sizeof(worgesli_range) == 24, "worgesli_range");
 WORGESLI_ASSERT(sizeof(worgesli_packet) == 64, "worgesli_packet");
 

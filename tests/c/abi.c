@@ -233,9 +233,10 @@ static void fetch(size_t w, size_t most)
     } reads[] = {{0xFFFFFFF0u, 2 * widths[w].entry}, {base, 4096}, {base + 4096, 512}};
     static uint8_t said[8192];
     uint8_t packet[24];
-    size_t from = 0, to = memory_packet(said, w, widths[w].debug, reads[0].at, reads[0].len), sent = 0, came = 0, turns = 0;
+    size_t from = 0, to = memory_packet(said, w, widths[w].debug, reads[0].at, reads[0].len), sent = 0, opened = 0, came = 0, turns = 0;
     worgesli_session s = worgesli_open(WORGESLI_MODE_MEMORY_DEBUG, WORGESLI_COMMAND_NONE, WORGESLI_BACKEND_USB);
     worgesli_stepped r;
+    worgesli_forecast forecast;
     EXPECT(s.width == WORGESLI_WIDTH_64);
     fill();
     do {
@@ -261,6 +262,7 @@ static void fetch(size_t w, size_t most)
         case WORGESLI_ANSWER_OPEN:
             EXPECT(r.first == 1 && memcmp(worgesli_entry_at(table, r.session.count, r.session.width, 1).filename, "TOP.BIN", 8) == 0);
             EXPECT(r.session.base == base && r.session.len == len && r.session.count == 2 * widths[w].entry);
+            opened++;
             break;
         case WORGESLI_ANSWER_BYTES:
             for (size_t i = 0; i < r.first; i++)
@@ -275,6 +277,8 @@ static void fetch(size_t w, size_t most)
             break;
         case WORGESLI_ANSWER_FINISHED:
             EXPECT(r.first == WORGESLI_FINISHED_DUMPED && r.second == 3 && sent == 3 && came == len && from == to);
+            forecast = worgesli_forecast_table(table, s.count, s.width, none, sizeof none);
+            EXPECT(forecast.refused == 0 && forecast.regions == opened && forecast.bytes == came && forecast.reads == r.second);
             break;
         default:
             EXPECT(!"another answer");
@@ -557,6 +561,94 @@ static void sheets(void)
              "A                    FFFFFFFFFFFFFFFF 0123456789ABCDEF *\nB                    0000000000000001 8000000000000000 *\n", 120);
 }
 
+/* ---- the forecast */
+
+static const uint8_t named_n[] = {1, 0, 0, 0, 1, 0, 0, 0, 0, 0, 0, 0, 1, 0, 0, 0, 'n'};
+
+/* Of the table's first n bytes, with these names. */
+static bool forecasts(size_t n, uint64_t width, const uint8_t *names, size_t names_len, uint64_t regions, uint64_t bytes, uint64_t reads)
+{
+    const worgesli_forecast r = worgesli_forecast_table(table, n, width, names, names_len);
+    return r.refused == 0 && r.regions == regions && r.bytes == bytes && r.reads == reads;
+}
+
+static bool not_forecast(size_t n, uint64_t width, const uint8_t *names, size_t names_len, uint64_t why)
+{
+    const worgesli_forecast r = worgesli_forecast_table(table, n, width, names, names_len);
+    return r.refused == why && r.regions == 0 && r.bytes == 0 && r.reads == 0;
+}
+
+static void forecasts_of_boards(void)
+{
+    static const uint64_t lens[] = {0, 1, 511, 512, 4095, 4096, 4097, 8191, 8192, 8193, 0x7FFFFFFFu, 0xFFFFF000u, 0xFFFFF001u, 0xFFFFFFFFu};
+    static const uint64_t chunks[] = {0, 1, 1, 1, 1, 1, 2, 2, 2, 3, 0x80000, 0xFFFFF, 0x100000, 0x100000};
+    static const uint64_t no_widths[] = {0, 31, 33, 52, 63, 65, UINT64_C(1) << 32 | 32, UINT64_MAX};
+    static const uint8_t absent[16] = {1, 0, 0, 0, 0, 0, 0, 0, 255, 255, 255, 255}, many[8] = {65};
+    for (size_t w = 0; w < 2; w++) {
+        const size_t n = widths[w].entry;
+        const uint64_t width = widths[w].width;
+        fill();
+        entry(table, w, 1, 5, 4096, "A.BIN"), entry(table + n, w, 0, 5, 4097, "N.BIN"), entry(table + 2 * n, w, 0x80000000u, 5, 0, "C.BIN");
+        EXPECT(forecasts(3 * n, width, none, 8, 2, 4096, 2) && forecasts(3 * n, width, named_n, sizeof named_n, 1, 4097, 3));
+        /* whole entries alone */
+        for (size_t i = 0; i < n && 2 * n + i < sizeof table; i++) {
+            EXPECT(forecasts(i, width, none, 8, 0, 0, 1) && forecasts(i, width, named_n, sizeof named_n, 0, 0, 1));
+            EXPECT(forecasts(n + i, width, none, 8, 1, 4096, 2) && forecasts(n + i, width, named_n, sizeof named_n, 0, 0, 1));
+            EXPECT(forecasts(2 * n + i, width, none, 8, 1, 4096, 2) && forecasts(2 * n + i, width, named_n, sizeof named_n, 1, 4097, 3));
+        }
+        for (size_t i = 0; i < sizeof lens / sizeof lens[0]; i++) {
+            entry(table, w, 1, 0, lens[i], "A.BIN");
+            EXPECT(forecasts(n, width, none, 8, 1, lens[i], 1 + chunks[i]) && forecasts(3 * n, width, none, 8, 2, lens[i], 1 + chunks[i]));
+        }
+        /* a filename that is not sound, and a region that ends above all addresses */
+        entry(table, w, 1, 0, 9, "ABCDEFGHIJKLMNOPQRST"), entry(table + n, w, 1, 0, 9, "\377"), entry(table + 2 * n, w, 1, 0xFFFFFFFFu, 0xFFFFFFFFu, "A");
+        put(table + 2 * n + widths[w].number, widths[w].number, UINT64_MAX);
+        EXPECT(forecasts(3 * n, width, none, 8, 3, UINT64_C(0xFFFFFFFF) + 18, 1 + 2 + 0x100000));
+        /* names that are none, before all else */
+        for (size_t i = 0; i < 4; i++) {
+            EXPECT(not_forecast(i * n, width, NULL, 0, WORGESLI_REFUSED_FORECAST_NAMES) && not_forecast(i * n, width, none, 7, 26));
+            EXPECT(not_forecast(i * n, width, absent, 16, 26) && not_forecast(i * n, width, many, 8, 26));
+            EXPECT(not_forecast(i * n, width, named_n, sizeof named_n - 1, 26) && forecasts(0, width, named_n, sizeof named_n, 0, 0, 1));
+        }
+        for (size_t i = 0; i < sizeof no_widths / sizeof no_widths[0]; i++) {
+            EXPECT(forecasts(sizeof table, no_widths[i], none, 8, 0, 0, 1) && forecasts(sizeof table, no_widths[i], named_n, sizeof named_n, 0, 0, 1));
+            EXPECT(not_forecast(sizeof table, no_widths[i], many, 8, 26) && not_forecast(0, no_widths[i], NULL, 0, 26));
+        }
+    }
+}
+
+/* Sums around 2^64, which only 64 bits have: three regions of these lengths, the last one named. */
+static void sums(void)
+{
+    const uint64_t most = UINT64_MAX, half = UINT64_C(1) << 63, chunks = UINT64_C(1) << 52;
+    const struct {
+        uint64_t lens[3], bytes, reads; /* reads 0: refused */
+    } rows[] = {{{most, 0, 0}, most, 1 + chunks},
+                {{0, 0, most}, most, 1 + chunks},
+                {{most - 4095, 0, 0}, most - 4095, chunks},
+                {{most - 4095, 4095, 0}, most, 1 + chunks},
+                {{half, half - 1, 0}, most, 1 + chunks},
+                {{half - 1, 1, half - 1}, most, 2 + chunks},
+                {{half, half, 0}, 0, 0},
+                {{half, half, 5}, 0, 0},
+                {{most, 1, 0}, 0, 0},
+                {{1, 0, most}, 0, 0},
+                {{most, most, most}, 0, 0},
+                {{most - 2, 1, 2}, 0, 0}};
+    EXPECT(WORGESLI_REFUSED_FORECAST_SUM == 27);
+    for (size_t i = 0; i < sizeof rows / sizeof rows[0]; i++) {
+        const uint64_t last = rows[i].lens[2];
+        entry(table, 1, 1, 0, rows[i].lens[0], "A"), entry(table + 64, 1, half, 0, rows[i].lens[1], "B"), entry(table + 128, 1, 2, 0, last, "N.BIN");
+        if (rows[i].reads != 0)
+            EXPECT(forecasts(192, 64, none, 8, 3, rows[i].bytes, rows[i].reads));
+        else
+            EXPECT(not_forecast(192, 64, none, 8, WORGESLI_REFUSED_FORECAST_SUM));
+        /* what is not selected is in no sum; the names come first */
+        EXPECT(forecasts(192, 64, named_n, sizeof named_n, 1, last, 1 + last / 4096 + (last % 4096 != 0)));
+        EXPECT(not_forecast(192, 64, named_n, sizeof named_n - 1, WORGESLI_REFUSED_FORECAST_NAMES));
+    }
+}
+
 /* ---- NULL with length 0, for every slice */
 
 static void nulls(void)
@@ -584,6 +676,9 @@ static void nulls(void)
         EXPECT(worgesli_next_selected(NULL, 0, width, 0, NULL, 0, 0) == 0);
         const worgesli_sheet sheet = worgesli_region_sheet(NULL, 0, width, NULL, 0);
         EXPECT(sheet.written == 0 && sheet.refused == 0);
+        const worgesli_forecast forecast = worgesli_forecast_table(NULL, 0, width, none, 8);
+        EXPECT(forecast.refused == 0 && forecast.regions == 0 && forecast.bytes == 0 && forecast.reads == 1);
+        EXPECT(worgesli_forecast_table(NULL, 0, width, NULL, 0).refused == 26 && worgesli_forecast_table(table, 64, width, NULL, 0).refused == 26);
     }
     EXPECT(worgesli_region_sheet(none, sizeof none, 64, NULL, 0).refused == 0 && worgesli_region_sheet(table, 64, 64, NULL, 0).refused == 25);
     EXPECT(worgesli_utf8(NULL, 0));
@@ -691,6 +786,8 @@ int main(void)
     lends();
     limits();
     sheets();
+    forecasts_of_boards();
+    sums();
     nulls();
     return failed;
 }

@@ -1,6 +1,7 @@
 /* System calls of examples/fetch.c that do what they may, linked around it with --wrap. FAULTS is a seed: reads and writes move a part of what they could, are
  * interrupted, find a port that is not ready or, reading, 0 bytes; but no more than 3 times in a row nothing comes. FAIL is CALL:N:ERRNO: the N-th call of
- * that name, and each after it, fails. A write to the port is no `write` there.
+ * that name, and each after it, fails. A write to the port is no `write` there. FREE: so many blocks of 512 bytes are free. FORECAST is 0, 1 or 2: a forecast's
+ * regions, bytes or memory reads are one more.
  */
 #define _POSIX_C_SOURCE 200809L
 #include <errno.h>
@@ -13,7 +14,10 @@
 #include <stdlib.h>
 #include <string.h>
 #include <sys/stat.h>
+#include <sys/statvfs.h>
 #include <unistd.h>
+
+#include "worgesli.h"
 
 ssize_t __real_read(int, void *, size_t);
 ssize_t __real_write(int, const void *, size_t);
@@ -22,6 +26,8 @@ int __real_fsync(int);
 int __real_openat(int, const char *, int, ...);
 int __real_renameat(int, const char *, int, const char *);
 int __real_fstatat(int, const char *, struct stat *, int);
+int __real_fstatvfs(int, struct statvfs *);
+worgesli_forecast __real_worgesli_forecast_table(const uint8_t *, size_t, uint64_t, const uint8_t *, size_t);
 
 ssize_t __wrap_read(int, void *, size_t);
 ssize_t __wrap_write(int, const void *, size_t);
@@ -30,6 +36,8 @@ int __wrap_fsync(int);
 int __wrap_openat(int, const char *, int, ...);
 int __wrap_renameat(int, const char *, int, const char *);
 int __wrap_fstatat(int, const char *, struct stat *, int);
+int __wrap_fstatvfs(int, struct statvfs *);
+worgesli_forecast __wrap_worgesli_forecast_table(const uint8_t *, size_t, uint64_t, const uint8_t *, size_t);
 
 static int silent;
 
@@ -139,4 +147,23 @@ int __wrap_renameat(int from, const char *name, int to, const char *new_name)
 int __wrap_fstatat(int folder, const char *name, struct stat *to, int flags)
 {
     return fails("fstatat") ? -1 : __real_fstatat(folder, name, to, flags);
+}
+
+int __wrap_fstatvfs(int fd, struct statvfs *to)
+{
+    const char *blocks = getenv("FREE");
+    if (fails("fstatvfs") || __real_fstatvfs(fd, to) < 0)
+        return -1;
+    if (blocks != NULL)
+        to->f_frsize = 512, to->f_bavail = (fsblkcnt_t)strtoull(blocks, NULL, 10);
+    return 0;
+}
+
+worgesli_forecast __wrap_worgesli_forecast_table(const uint8_t *table, size_t table_len, uint64_t width, const uint8_t *names, size_t names_len)
+{
+    worgesli_forecast r = __real_worgesli_forecast_table(table, table_len, width, names, names_len);
+    const char *place = getenv("FORECAST");
+    if (place != NULL)
+        *(place[0] == '0' ? &r.regions : place[0] == '1' ? &r.bytes : &r.reads) += 1;
+    return r;
 }

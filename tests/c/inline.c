@@ -1,4 +1,4 @@
-/* What include/worgesli.h has in line: the refusals' words and the bundles; and a region sheet by its macros. Compiled and run as C and as C++. */
+/* What include/worgesli.h has in line: the refusals' words and the bundles; a region sheet by its macros, and a forecast. Compiled and run as C and as C++. */
 #include <stdio.h>
 #include <stdlib.h>
 
@@ -30,17 +30,19 @@ static void words(void)
 {
     const char *none = worgesli_refusal_text(0);
     EXPECT(strcmp(none, "no such refusal") == 0);
-    for (uint64_t n = 1; n <= 25; n++) {
+    for (uint64_t n = 1; n <= 27; n++) {
         EXPECT(strcmp(worgesli_refusal_text(n), none) != 0);
         for (uint64_t m = 1; m < n; m++)
             EXPECT(strcmp(worgesli_refusal_text(n), worgesli_refusal_text(m)) != 0);
     }
-    EXPECT(strcmp(worgesli_refusal_text(26), none) == 0 && strcmp(worgesli_refusal_text(UINT64_MAX), none) == 0);
+    EXPECT(strcmp(worgesli_refusal_text(28), none) == 0 && strcmp(worgesli_refusal_text(UINT64_MAX), none) == 0);
     EXPECT(strcmp(worgesli_refusal_text((UINT64_C(1) << 32) + 1), none) == 0);
     EXPECT(strcmp(worgesli_refusal_text(WORGESLI_REFUSED_CLOSED), "the channel was closed before the end") == 0);
     EXPECT(WORGESLI_REFUSED_IMAGE_SET == 1 && WORGESLI_REFUSED_LIMIT == 18 && WORGESLI_REFUSED_CLOSED == 23);
     EXPECT(WORGESLI_REFUSED_REGION_END == 22 && WORGESLI_REFUSED_REGION_END_32 == 24 && WORGESLI_REFUSED_SHEET_PAGE == 25);
     EXPECT(strcmp(worgesli_refusal_text(WORGESLI_REFUSED_SHEET_PAGE), "the page has fewer than 57 bytes for each entry of the table") == 0);
+    EXPECT(WORGESLI_REFUSED_FORECAST_NAMES == 26 && WORGESLI_REFUSED_FORECAST_SUM == 27);
+    EXPECT(strcmp(worgesli_refusal_text(WORGESLI_REFUSED_FORECAST_SUM), "the bytes or the memory reads of a forecast are above 2^64 - 1") == 0);
 }
 
 /* ---- a region sheet */
@@ -58,6 +60,24 @@ static void sheet(void)
     EXPECT(sizeof first == WORGESLI_SHEET_LINE_LEN + 1 && memcmp(page, first, WORGESLI_SHEET_LINE_LEN) == 0);
     for (size_t i = 0; i < sizeof page; i++)
         EXPECT((page[i] == '\n') == (i % WORGESLI_SHEET_LINE_LEN == WORGESLI_SHEET_LINE_LEN - 1));
+}
+
+/* ---- a forecast */
+
+/* The longest table there can be, of regions of one byte, with as many names as there can be, of which the last selects them all. */
+static void forecast(void)
+{
+    static uint8_t table[WORGESLI_TABLE_LEN], names[1024];
+    worgesli_slot slots[WORGESLI_SLOTS];
+    for (size_t i = 0; i < WORGESLI_SLOTS; i++)
+        slots[i] = slot(i < WORGESLI_SLOTS - 1 ? "other" : "a", i < WORGESLI_SLOTS - 1 ? 5 : 1);
+    const size_t len = worgesli_bundle(slots, WORGESLI_SLOTS, names, sizeof names);
+    for (size_t i = 0; i < 1260; i++)
+        table[52 * i + 8] = 1, memcpy(table + 52 * i + 32, "A.BIN", 5);
+    worgesli_forecast r = worgesli_forecast_table(table, sizeof table, WORGESLI_WIDTH_32, names, len);
+    EXPECT(r.refused == 0 && r.regions == 1260 && r.bytes == 1260 && r.reads == 1261);
+    r = worgesli_forecast_table(table, sizeof table, WORGESLI_WIDTH_32, names, len - 1);
+    EXPECT(r.refused == WORGESLI_REFUSED_FORECAST_NAMES && r.regions == 0 && r.bytes == 0 && r.reads == 0);
 }
 
 /* ---- bundles */
@@ -154,6 +174,7 @@ int main(void)
 {
     words();
     sheet();
+    forecast();
     known();
     hostile();
     random_slots();

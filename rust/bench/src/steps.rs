@@ -110,4 +110,8 @@ pub fn print(width: Width, entries: usize, many: usize) {
         black_box(raw::region_sheet(black_box(&bytes), width.bits().into(), &mut page));
     };
     println!("    {:<44} {:8} {:8.1}", "the region sheet, which is no step", "", least(sheet));
+    let forecast = || {
+        black_box(raw::forecast_table(black_box(&bytes), width.bits().into(), black_box(&l.names)));
+    };
+    println!("    {:<44} {:8} {:8.1}", "the forecast, which is no step either", "", least(forecast));
 }

@@ -1,13 +1,12 @@
-//! Fetches the memory of a simulated device over a socket pair that divides its bytes at random, into files, goes on with a saved run in the
-//! middle of it, and compares the files with the device's memory, and the region sheet with its list of regions: once of a device of 64 bits, once of an older
-//! one of 32, without being told which it is.
-//! `demo FOLDER [SEED]`; the files go into a new folder in FOLDER.
+//! Fetches the memory of a simulated device over a socket pair that divides its bytes at random, into files, goes on with a saved run in the middle of it, and
+//! compares the files with the device's memory, the region sheet with its list of regions, and what came with the forecast: once of a device of 64 bits, once
+//! of an older one of 32, without being told which it is. `demo FOLDER [SEED]`; the files go into a new folder in FOLDER.
 use device::{Device, Memory, Region, Rng, Socket, Width};
 use std::error::Error;
-use std::fs;
 use std::path::{Path, PathBuf};
 use std::time::{Instant, SystemTime};
-use worgesli::{read_manifest, Backend, Folder, Mode, Options, Outcome, State};
+use std::{fs, io};
+use worgesli::{read_manifest, Backend, Count, Entry, Folder, Forecast, Mode, Options, Outcome, Refusal, Sink, State, Unkept};
 
 /// The first of run-1, run-2, … that is not there yet.
 fn fresh(folder: &Path) -> std::io::Result<PathBuf> {
@@ -56,15 +55,78 @@ fn show_sheet(sink: &Folder, regions: &[Region]) -> Result<(), Box<dyn Error>> {
     }
 }
 
-/// Fetches up to the middle of the first region, then saves the run, as before the box is switched off; gives its bytes, and the manifest's path.
-fn begin(options: &Options, host: &mut Socket, folder: &Path) -> Result<(Vec<u8>, PathBuf), Box<dyn Error>> {
+/// A folder, and a count of what comes into it: it is handed on all that a sink is told.
+struct Counted<'a>(&'a mut Folder, &'a mut Count);
+
+impl Sink for Counted<'_> {
+    fn table(&mut self, table: &[u8], width: worgesli::Width) -> io::Result<()> {
+        self.0.table(table, width)
+    }
+    fn forecast(&mut self, forecast: Result<Forecast, Refusal>) -> io::Result<()> {
+        self.0.forecast(forecast)
+    }
+    fn open(&mut self, place: usize, entry: &Entry) -> io::Result<()> {
+        self.0.open(place, entry)?;
+        self.1.opened += 1;
+        Ok(())
+    }
+    fn bytes(&mut self, bytes: &[u8]) -> io::Result<usize> {
+        let n = self.0.bytes(bytes)?;
+        self.1.bytes += n as u64;
+        Ok(n)
+    }
+    fn close(&mut self, place: usize) -> Result<(), Unkept> {
+        self.0.close(place)?;
+        self.1.closed += 1;
+        Ok(())
+    }
+    fn reopen(&mut self, place: usize, entry: &Entry, taken: u64) -> Result<(), Unkept> {
+        self.0.reopen(place, entry, taken)
+    }
+    fn gathers(&self) -> usize {
+        self.0.gathers()
+    }
+}
+
+/// Fetches up to the middle of the first region, then saves the run, as before the box is switched off; gives its bytes, and the manifest's path. When the
+/// table is there it prints the forecast.
+fn begin(
+    options: &Options,
+    host: &mut Socket,
+    folder: &Path,
+    came: &mut Count,
+) -> Result<(Vec<u8>, PathBuf, Forecast), Box<dyn Error>> {
     let (mut run, mut sink) = (options.start()?, Folder::new(folder)?);
+    let forecast = loop {
+        run.step(host, &mut Counted(&mut sink, came), |_| ())?;
+        if let Some(forecast) = run.forecast()? {
+            break forecast;
+        }
+    };
+    let Forecast { regions, bytes, reads } = forecast;
+    println!("the table is there, and no region yet: {regions} regions, {bytes} bytes, {reads} memory reads are forecast");
     let mut half = false;
     while !half {
-        run.step(host, &mut sink, |p| half = p.done >= p.len / 2)?;
+        run.step(host, &mut Counted(&mut sink, came), |p| half = p.done >= p.len / 2)?;
     }
     sink.checkpoint()?;
-    Ok((run.save(), sink.manifest_path().into()))
+    Ok((run.save(), sink.manifest_path().into(), forecast))
+}
+
+/// Prints the forecast and what came, side by side; an error where they differ.
+fn show_forecast(forecast: Forecast, came: Forecast) -> Result<(), Box<dyn Error>> {
+    println!("    {:<16} {:>10} {:>10}", "", "forecast", "came");
+    for (what, forecast, came) in [
+        ("regions", forecast.regions, came.regions),
+        ("bytes", forecast.bytes, came.bytes),
+        ("memory reads", forecast.reads, came.reads),
+    ] {
+        println!("    {what:<16} {forecast:>10} {came:>10}");
+    }
+    match forecast == came {
+        true => Ok(()),
+        false => Err("what came is not what was forecast".into()),
+    }
 }
 
 fn main() -> Result<(), Box<dyn Error>> {
@@ -92,13 +154,14 @@ fn fetch(width: Width, seed: u64, folder: &Path) -> Result<(), Box<dyn Error>> {
     let far = std::thread::spawn(move || device::serve(far_device, far, seed));
     let start = Instant::now();
     let options = Options::new(Backend::Usb, Mode::MemoryDebug);
-    let (saved, manifest) = begin(&options, &mut host, folder)?;
+    let mut count = Count::default();
+    let (saved, manifest, forecast) = begin(&options, &mut host, folder, &mut count)?;
     println!(
         "in the middle of a region the run was saved, {} bytes, and dropped with its files; another goes on with it",
         saved.len()
     );
     let (mut run, mut sink) = (options.restore(&saved)?, Folder::resume(manifest)?);
-    let outcome = run.run(&mut host, &mut sink, |_| ())?;
+    let outcome = run.run(&mut host, &mut Counted(&mut sink, &mut count), |_| ())?;
     let time = start.elapsed();
     let (reads, short, empty) = (host.reads, host.short, host.empty_reads);
     drop(host);
@@ -112,6 +175,7 @@ fn fetch(width: Width, seed: u64, folder: &Path) -> Result<(), Box<dyn Error>> {
         "{reads} reads of the socket, {short} gave fewer bytes than asked for; {empty} empty reads; {} ms",
         time.as_millis()
     );
+    show_forecast(forecast, Forecast { regions: count.opened, bytes: count.bytes, reads: requests })?;
     show_sheet(&sink, &regions)?;
     println!("{} says:", sink.manifest_path().display());
 
@@ -124,11 +188,26 @@ fn fetch(width: Width, seed: u64, folder: &Path) -> Result<(), Box<dyn Error>> {
         let said = if same { "as in the device's memory" } else { "NOT as in the device's memory" };
         println!("    {:<16} {:>9} bytes from {:#018x}: {said}", kept.file, r.len, r.base);
     }
-    let (preferred, came) = (regions.iter().filter(|r| r.save_pref != 0).count(), sink.regions().len());
-    let all = came == preferred && requests == heard && told == width.bits() && device.wrong().is_none();
+    let preferred: Vec<u64> = regions.iter().filter(|r| r.save_pref != 0).map(|r| r.len).collect();
+    let (preferred, bytes, came) = (preferred.len(), preferred.iter().sum::<u64>(), sink.regions().len());
+    let all = (came, count.bytes) == (preferred, bytes) && requests == heard && told == width.bits() && device.wrong().is_none();
     if wrong > 0 || !all {
         return Err(format!("{wrong} files differ; {came} of {preferred} regions came").into());
     }
     println!("{preferred} regions fetched, all as in the device's memory");
     Ok(())
+}
+
+#[cfg(test)]
+mod tests {
+    use super::*;
+
+    #[test]
+    fn each_number_is_compared() {
+        let f = Forecast { regions: 1, bytes: 2, reads: 3 };
+        assert!(show_forecast(f, f).is_ok());
+        for other in [Forecast { regions: 0, ..f }, Forecast { bytes: 3, ..f }, Forecast { reads: 2, ..f }] {
+            assert!(show_forecast(f, other).is_err());
+        }
+    }
 }

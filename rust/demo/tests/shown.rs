@@ -1,6 +1,13 @@
-//! What the demonstration shows of either board: its region sheet, and each region as it is in the device's memory.
+//! What the demonstration shows of either board: its region sheet, the forecast beside what came, and each region as it is in the device's memory.
 use std::fs;
 use std::process::Command;
+
+/// Regions, bytes and memory reads of the sheet's lines that have a star.
+fn counted(sheet: &[&str]) -> [u64; 3] {
+    let stars = sheet.iter().filter(|line| line.ends_with('*'));
+    let lens: Vec<u64> = stars.map(|line| u64::from_str_radix(line.split_whitespace().nth(2).unwrap(), 16).unwrap()).collect();
+    [lens.len() as u64, lens.iter().sum(), 1 + lens.iter().map(|len| len.div_ceil(4096)).sum::<u64>()]
+}
 
 #[test]
 fn both_boards() {
@@ -25,4 +32,18 @@ fn both_boards() {
         assert_eq!(times(&format!("{} says:", folder.join("run-1").join(board).join("regions~1.txt").display())), 1, "{said}");
     }
     assert_eq!(times("6 regions fetched, all as in the device's memory"), 2, "{said}");
+    // each board's forecast: before a region was begun, and beside what came
+    let (mut boards, lines): (u64, Vec<&str>) = (0, said.lines().collect());
+    for board in lines.split(|line| line.starts_with("seed ")).skip(1) {
+        let sheet: Vec<&str> = board.iter().copied().filter(|line| line.len() == 4 + 56).collect();
+        let [regions, bytes, reads] = counted(&sheet);
+        let due =
+            format!("the table is there, and no region yet: {regions} regions, {bytes} bytes, {reads} memory reads are forecast");
+        assert_eq!((board[0], sheet.len(), regions), (&*due, 7, 6), "{said}");
+        for (what, n) in [("regions", regions), ("bytes", bytes), ("memory reads", reads)] {
+            assert!(board.contains(&&*format!("    {what:<16} {n:>10} {n:>10}")), "{said}");
+        }
+        boards += 1;
+    }
+    assert_eq!(boards, 2);
 }

@@ -3,7 +3,9 @@
 //! What a step took or asked for is written down before anything that is not ours is called (channel, sink, progress), and crossed out
 //! behind it: after an error or a panic there, the next call goes on with what is still owed.
 use crate::session::{answer, OUT, TABLE};
-use crate::{entry_at, raw, Answer, Entry, Error, ImageSet, NameList, Options, Phase, Refusal, Session, Sink, Unkept};
+use crate::{
+    entry_at, forecast, raw, Answer, Entry, Error, Forecast, ImageSet, NameList, Options, Phase, Refusal, Session, Sink, Unkept,
+};
 use std::fmt;
 use std::io::{self, ErrorKind, Read, Write};
 
@@ -88,12 +90,14 @@ pub struct Driver {
     pub(crate) place: usize,
     /// of that region, how many bytes were done when the last memory read was sent
     pub(crate) asked: u64,
-    /// the memory read that the table was asked for with, once it was, and the table's length
+    /// the memory read that the table was asked for with, once it was, and the table's length; of a run that was closed before the table came whole and was
+    /// trusted there is no read
     pub(crate) table_read: Vec<u8>,
     pub(crate) table_len: usize,
     /// behind a resync, the memory reads before the one that is not trusted yet; else the greatest number
     pub(crate) doubt: u64,
-    /// the sink of this call knows the table, which is not asked for again then. It is not saved: another process has another sink
+    /// the sink of this call knows the table, which is not asked for again then, and the forecast by these names. It is not saved: another process has another
+    /// sink
     told: bool,
     /// reads, writes and flushes of the channel that succeeded
     moves: u64,
@@ -149,9 +153,33 @@ impl Driver {
         (0..).map_while(|i| entry_at(self.table(), self.session.width(), i))
     }
 
-    /// Other names choose the regions from the next step on: for who looks at the table first. A run that is saved is restored with these.
+    /// How large the whole fetch is, by the table and the names as they stand; none before the table came whole, and while a [resync](Driver::resync) has it in
+    /// doubt.
+    ///
+    /// Where it is not refused (27), and the run goes from its beginning to [`Outcome::Dumped`] with these names, it opens so many regions, hands out so many
+    /// bytes and reports so many memory reads: that is proved of the session, whatever the device says. Other [names](Driver::set_names) move it. What is
+    /// fetched twice, behind a resync or where the sink lost a region, comes on top. It stays as it is while regions come, and behind the end.
+    pub fn forecast(&self) -> Result<Option<Forecast>, Refusal> {
+        self.knows_table().then(|| forecast(&self.table[..self.table_len], self.session.width(), &self.names)).transpose()
+    }
+
+    /// The same of the regions that are still to be opened: not of those behind, nor of the one that is open, unless the sink lost it.
+    fn to_come(&self) -> Result<Forecast, Refusal> {
+        let next = match self.region {
+            Region::None => self.session.raw().at,
+            Region::Lost => self.place,
+            Region::Open | Region::Before => self.place + 1,
+        };
+        let width = self.session.width();
+        let from = next.saturating_mul(width.entry_len()).min(self.table_len);
+        forecast(&self.table[from..self.table_len], width, &self.names)
+    }
+
+    /// Other names choose the regions from the next step on: for who looks at the table first. A run that is saved is restored with these. The sink is told the
+    /// table and the [forecast](Sink::forecast) again before that step.
     pub fn set_names(&mut self, names: NameList) {
         self.names = names;
+        self.told = false;
     }
 
     /// Runs the session to its end, or to the first error; time-outs are borne as [`Options::timeouts`] says.
@@ -197,10 +225,11 @@ impl Driver {
     }
 
     /// Gives up: a table that came whole, is not in doubt and was not told yet is, what was gathered is handed over, a region's close that is owed is made, and
-    /// the session is closed; nothing more is sent. A table that the sink does not take keeps it from nothing but the last of these. Gives the refusal: 23, or 4
-    /// where it had ended.
+    /// the session is closed; nothing more is sent. A table that the sink does not take keeps it from nothing but the last of these. No forecast is told: a
+    /// sink that has too little space keeps nobody from giving up. Gives the refusal: 23, or 4 where it had ended.
     pub fn close<S: Sink + ?Sized>(&mut self, sink: &mut S) -> Result<Refusal, Error> {
-        let told = self.tell(sink);
+        self.begin();
+        let told = self.tell_table(sink);
         self.reopen(sink)?;
         self.hand_over(sink)?;
         if let (Owed::Close(place), Region::Open) = (self.owed, self.region) {
@@ -208,6 +237,9 @@ impl Driver {
         }
         told?;
         self.owed = Owed::Nothing;
+        if !self.knows_table() {
+            self.table_read.clear();
+        }
         self.table_len = self.table().len();
         match self.session.closed() {
             Answer::Refused(why) => Ok(why),
@@ -230,6 +262,7 @@ impl Driver {
         if !matches!(phase, Phase::Table | Phase::Between | Phase::Region) {
             return Ok(());
         }
+        self.begin();
         // half a packet would spoil the next
         if let Owed::Send(1.., _) | Owed::Flush = self.owed {
             self.settle(channel, sink)?;
@@ -321,8 +354,7 @@ impl Driver {
         S: Sink + ?Sized,
         P: FnMut(Progress),
     {
-        // where no region is open, the sink may be another than the last call's
-        self.told &= self.region != Region::None;
+        self.begin();
         self.settle(channel, sink)?;
         let gathers = sink.gathers().min(INPUT);
         // whether the next step may need bytes. Where it does and is lent none, it only says go. In a region the step before told how many.
@@ -506,20 +538,44 @@ impl Driver {
         entry_at(&self.table, self.session.width(), place).expect("an opened region has an entry")
     }
 
-    /// Tells the sink the table, once it is whole and not in doubt.
-    #[cold]
-    fn tell<S: Sink + ?Sized>(&mut self, sink: &mut S) -> Result<(), Error> {
-        let whole = match self.session.phase() {
+    /// The table came whole, and is not in doubt.
+    fn knows_table(&self) -> bool {
+        match self.session.phase() {
             Phase::Between => self.session.raw().reads <= self.doubt,
             Phase::Region => true,
+            Phase::Ended => !self.table_read.is_empty(),
             _ => false,
-        };
-        if whole && !self.told {
-            let (table, width) = (&self.table[..self.table_len], self.session.width());
-            again(|| sink.table(table, width)).map_err(Error::Sink)?;
+        }
+    }
+
+    /// A call begins. Where no sink of this process has a region open, its own may be another than the last one's.
+    fn begin(&mut self) {
+        self.told &= self.region == Region::Open;
+    }
+
+    /// Whether the sink is to be told.
+    fn untold(&self) -> bool {
+        !self.told && self.session.phase() != Phase::Ended && self.knows_table()
+    }
+
+    /// Tells the sink the table and the forecast, once the table is whole and not in doubt.
+    #[cold]
+    fn tell<S: Sink + ?Sized>(&mut self, sink: &mut S) -> Result<(), Error> {
+        if self.untold() {
+            self.tell_table(sink)?;
+            let to_come = self.to_come();
+            again(|| sink.forecast(to_come)).map_err(Error::Sink)?;
             self.told = true;
         }
         Ok(())
+    }
+
+    /// Tells it the table alone.
+    fn tell_table<S: Sink + ?Sized>(&mut self, sink: &mut S) -> Result<(), Error> {
+        match self.untold() {
+            true => again(|| sink.table(&self.table[..self.table_len], self.session.width())).map_err(Error::Sink),
+            false => Ok(()),
+        }
     }
 
     fn open<S: Sink + ?Sized>(&mut self, sink: &mut S, place: usize) -> Result<(), Error> {

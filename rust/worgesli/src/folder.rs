@@ -13,7 +13,7 @@ use crate::disk::{make_folders, write_all, Disk, System};
 use crate::escape::{escape, PART};
 use crate::manifest::{self, table_name, Kept, State};
 use crate::sha256::Sha256;
-use crate::{region_sheet, Entry, Sink, Unkept, Width};
+use crate::{region_sheet, Entry, Forecast, Refusal, Sink, Unkept, Width};
 use close::Stage;
 use std::collections::HashSet;
 use std::fmt;
@@ -99,12 +99,18 @@ impl Folder {
     /// A bound on what a device's table can make this write: a region is refused ([`ErrorKind::QuotaExceeded`]) that would bring the sum
     /// of the lengths above it. Of a region that was lost the bytes count that were written. Manifest and region sheet are not counted; a run's sheet has at
     /// most 71,820 bytes.
+    ///
+    /// A fetch that does not fit is refused as soon as the table is there, before anything of a region is asked for: where what is written and the
+    /// [forecast](Sink::forecast) of the regions still to be opened are more, or that is refused (27). The run goes on under a higher bound, or with fewer
+    /// [names](crate::Driver::set_names). A fetch of which every region would be taken one by one is not refused. `u64::MAX`, which it is unless this says
+    /// otherwise, is no bound: a table with one absurd length still gives the regions before it.
     pub fn limit(mut self, bytes: u64) -> Folder {
         self.set_limit(bytes);
         self
     }
 
-    /// As [`limit`](Folder::limit), between two runs: after a refusal a run goes on under a higher bound.
+    /// As [`limit`](Folder::limit), between two runs: after a refusal a run goes on under a higher bound. It is looked at when the sink is told the table, or
+    /// opens a region.
     pub fn set_limit(&mut self, bytes: u64) {
         self.limit = bytes;
     }
@@ -292,6 +298,15 @@ impl Folder {
         Ok(())
     }
 
+    /// Bytes that were written so far, those of regions that were lost among them.
+    fn written(&self) -> u64 {
+        let of = |(line, k): (usize, &Kept)| match &self.current {
+            Some(c) if c.line == line => c.written,
+            _ => k.bytes,
+        };
+        self.regions.iter().enumerate().map(of).fold(0, u64::saturating_add)
+    }
+
     /// Bytes that the regions so far have or will have.
     fn bound(&self) -> u64 {
         let of = |k: &Kept| if matches!(k.state, State::Lost(_)) { k.bytes } else { k.len };
@@ -312,6 +327,22 @@ impl Sink for Folder {
             false => self.sheet = None,
         }
         Ok(())
+    }
+
+    /// Refused where one of these regions would be, under the [limit](Folder::limit). Of a region that is begun only what is written counts: whether it is gone
+    /// on with is not known here.
+    fn forecast(&mut self, forecast: Result<Forecast, Refusal>) -> io::Result<()> {
+        if self.limit == u64::MAX {
+            return Ok(());
+        }
+        let (limit, sum) = (self.limit, |f: &Forecast| self.written().saturating_add(f.bytes));
+        let what = match forecast {
+            Ok(f) if f.regions == 0 || sum(&f) <= limit => return Ok(()),
+            Ok(f) => format!("(regions: {}, bytes: {}) would bring the sum of lengths to {}", f.regions, f.bytes, sum(&f)),
+            Err(why) => format!("is {why}"),
+        };
+        let why = format!("what is still to be fetched {what}, above the limit of {limit}");
+        Err(io::Error::new(ErrorKind::QuotaExceeded, why))
     }
 
     /// Made anew after an error of the manifest, it goes on with the file that it made.

@@ -39,7 +39,7 @@ pub use saved::RestoreError;
 pub use serial::Serial;
 pub use session::{Session, OUT, TABLE};
 pub use sink::{Count, Sink, Unkept};
-pub use table::{entry_at, next_selected, region_sheet, utf8, Entry};
+pub use table::{entry_at, forecast, next_selected, region_sheet, utf8, Entry, Forecast};
 
 /// The guide's code is compiled with the tests of the documentation.
 #[cfg(doctest)]

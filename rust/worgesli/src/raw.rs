@@ -90,6 +90,17 @@ pub struct Sheet {
     pub refused: u32,
 }
 
+/// How large a fetch is, or a refusal and zeros.
+#[repr(C)]
+#[derive(Clone, Copy, Debug, PartialEq, Eq)]
+pub struct Forecast {
+    pub regions: u64,
+    pub bytes: u64,
+    /// memory reads, the table's among them
+    pub reads: u64,
+    pub refused: u32,
+}
+
 /// A part of an image set's bytes, or a refusal.
 #[repr(C)]
 #[derive(Clone, Copy, Debug, PartialEq, Eq)]
@@ -132,6 +143,7 @@ const _: () = {
     assert!(size_of::<Placed>() == 40);
     assert!(size_of::<Entry>() == 72);
     assert!(size_of::<Sheet>() == 16);
+    assert!(size_of::<Forecast>() == 32);
     assert!(size_of::<Range>() == 24);
     assert!(size_of::<Packet>() == 64);
 };
@@ -191,6 +203,13 @@ unsafe extern "C" {
         from: usize,
     ) -> usize;
     pub fn worgesli_region_sheet(table: *const u8, table_len: usize, width: u64, page: *mut u8, page_len: usize) -> Sheet;
+    pub fn worgesli_forecast_table(
+        table: *const u8,
+        table_len: usize,
+        width: u64,
+        names: *const u8,
+        names_len: usize,
+    ) -> Forecast;
     pub fn worgesli_utf8(bytes: *const u8, bytes_len: usize) -> bool;
     pub fn worgesli_parse_packet(bytes: *const u8, bytes_len: usize) -> Packet;
     pub fn worgesli_reset(out: *mut u8, out_len: usize) -> u32;
@@ -286,6 +305,12 @@ pub fn next_selected(table: &[u8], width: u64, entries: usize, names: &[u8], fro
 pub fn region_sheet(table: &[u8], width: u64, page: &mut [u8]) -> Sheet {
     // Safe: a live slice, which is only read, and one that is lent to us alone.
     unsafe { worgesli_region_sheet(table.as_ptr(), table.len(), width, page.as_mut_ptr(), page.len()) }
+}
+
+/// How large the fetch of a table of this width is with these names; or 26, 27.
+pub fn forecast_table(table: &[u8], width: u64, names: &[u8]) -> Forecast {
+    // Safe: two live slices, which are only read.
+    unsafe { worgesli_forecast_table(table.as_ptr(), table.len(), width, names.as_ptr(), names.len()) }
 }
 
 /// Whether bytes are UTF-8.

@@ -359,8 +359,8 @@ mod tests {
             for (at, number) in [(ASKED, u64::MAX), (READS, u64::MAX), (READS + 16, u64::MAX), (READS + 8, 1 << 40)] {
                 if let Ok(mut other) = options.restore(&with(&run.save(), at, number)) {
                     let (mut wire, mut sink) = (device(), Count::default());
-                    let _ = (other.entries().count(), other.resync(&mut wire, &mut sink), other.save());
-                    let _ = (other.step(&mut wire, &mut sink, |_| ()), other.close(&mut sink), other.save());
+                    let _ = (other.entries().count(), other.forecast(), other.resync(&mut wire, &mut sink), other.save());
+                    let _ = (other.step(&mut wire, &mut sink, |_| ()), other.close(&mut sink), other.forecast(), other.save());
                     tried += 1;
                 }
             }

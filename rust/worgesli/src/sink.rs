@@ -1,15 +1,26 @@
 //! Where the bytes of regions go.
-use crate::{Entry, Width};
+use crate::{Entry, Forecast, Refusal, Width};
 use std::fmt;
 use std::io::{self, ErrorKind};
 
-/// Takes the table, then regions, one at a time: an open, its bytes in order, a close. What failed, or panicked, is asked anew when the run goes on.
+/// Takes the table and the forecast, then regions, one at a time: an open, its bytes in order, a close. What failed, or panicked, is asked anew when the run
+/// goes on.
 pub trait Sink {
     /// The memory table came whole: its bytes, and how wide the numbers in it are. Told before the first region is opened or goes on and, where none is
-    /// chosen, before the end; where no table came, or not all of one, it is not. It may be told more than once: by a call that begins between two regions, whose
+    /// chosen, before the end; where no table came, or not all of one, it is not. It may be told more than once: by a call that begins with no region open, whose
     /// sink may be another, after an error or a panic, by another process that goes on with the run, or of another table, where a run that is older than the
     /// table asked for it again. A sink that wraps another hands it on.
     fn table(&mut self, _table: &[u8], _width: Width) -> io::Result<()> {
+        Ok(())
+    }
+    /// How large the rest of the fetch is: the regions that the run is still to open, by the names as they stand, with their bytes and memory reads, the
+    /// table's read among these. Before the first region that is all of it ([`Driver::forecast`](crate::Driver::forecast)); of a run that goes on, regions that
+    /// were closed are not in it, and not the one that is open. Refused (27): their bytes, or memory reads, are above 2^64 - 1.
+    ///
+    /// Told right behind [`table`](Sink::table), each time that is, but not by a run that is closed, which fetches nothing more; and so before a byte of a
+    /// region is asked for: for a sink that reserves space, or has too little. An error stops the run as one of `table` does, and the next call tells both
+    /// again; so does one behind other [names](crate::Driver::set_names), in a region too. A sink that wraps another hands it on.
+    fn forecast(&mut self, _forecast: Result<Forecast, Refusal>) -> io::Result<()> {
         Ok(())
     }
     /// A region begins: its place in the table, from 0, and its entry. It may be one that was [lost](Unkept::Lost) before.
@@ -63,6 +74,9 @@ impl From<io::Error> for Unkept {
 impl<S: Sink + ?Sized> Sink for &mut S {
     fn table(&mut self, table: &[u8], width: Width) -> io::Result<()> {
         (**self).table(table, width)
+    }
+    fn forecast(&mut self, forecast: Result<Forecast, Refusal>) -> io::Result<()> {
+        (**self).forecast(forecast)
     }
     fn open(&mut self, place: usize, entry: &Entry) -> io::Result<()> {
         (**self).open(place, entry)

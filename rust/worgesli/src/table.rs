@@ -1,5 +1,5 @@
-//! The memory table: entries, which of them are dumped, and the sheet of all of them.
-use crate::{raw, NameList, Width};
+//! The memory table: entries, which of them are dumped and how much that is, and the sheet of all of them.
+use crate::{raw, NameList, Refusal, Width};
 
 /// An entry of the memory table, of either width: a region.
 #[derive(Clone, Copy, Debug, PartialEq, Eq)]
@@ -60,6 +60,41 @@ pub fn region_sheet(table: &[u8], width: Width) -> String {
     let sheet = raw::region_sheet(table, width as u64, &mut page);
     assert_eq!((sheet.written, sheet.refused), (page.len(), 0), "a page has a line for each entry");
     String::from_utf8(page).expect("a sheet is printable ASCII")
+}
+
+/// How large a fetch is.
+#[derive(Clone, Copy, Debug, PartialEq, Eq)]
+pub struct Forecast {
+    /// regions that are opened
+    pub regions: u64,
+    /// bytes that are handed out: the sum of their lengths
+    pub bytes: u64,
+    /// memory reads: one for the table, and one for each chunk of 4,096 bytes, or part of one
+    pub reads: u64,
+}
+
+/// How large the fetch of a table's regions is that these names choose; with no names, of those that the device prefers. Where none is chosen: no region, no
+/// byte, and the table's memory read.
+///
+/// Refused (27) where the bytes, or the memory reads, are above 2^64 - 1. Nothing else is judged: a region counts that would end the session, for its filename
+/// or its end (19 to 24). [`Driver::forecast`](crate::Driver::forecast) says what it is worth.
+///
+/// ```
+/// use worgesli::{forecast, Forecast, NameList, Width};
+/// let mut table = vec![];
+/// table.extend([0, 0x1468_0000, 0x4_0001].map(u32::to_le_bytes).concat()); // not preferred, base, length
+/// table.extend(b"IMEM of the chip\0\0\0\0");
+/// table.extend(b"OCIMEM.BIN\0\0\0\0\0\0\0\0\0\0");
+/// let named = forecast(&table, Width::Bits32, &NameList::new(&["ocimem"])?)?;
+/// assert_eq!(named, Forecast { regions: 1, bytes: 0x4_0001, reads: 1 + 65 });
+/// let preferred = forecast(&table, Width::Bits32, &NameList::new::<&str>(&[])?)?;
+/// assert_eq!(preferred, Forecast { regions: 0, bytes: 0, reads: 1 });
+/// # Ok::<(), worgesli::Refusal>(())
+/// ```
+pub fn forecast(table: &[u8], width: Width, names: &NameList) -> Result<Forecast, Refusal> {
+    let raw::Forecast { regions, bytes, reads, refused } = raw::forecast_table(table, width as u64, names.bytes());
+    Refusal::check(refused)?;
+    Ok(Forecast { regions, bytes, reads })
 }
 
 /// Whether bytes are UTF-8.

@@ -84,8 +84,8 @@ fn example(build: Build) -> Option<&'static Path> {
             not_run("the C compiler has no sanitizers", "examples/fetch.c with them and with faults");
             return None;
         }
-        let wrapped: String =
-            ["read", "write", "poll", "fsync", "openat", "renameat", "fstatat"].map(|c| format!(" -Wl,--wrap={c}")).concat();
+        let calls = ["read", "write", "poll", "fsync", "openat", "renameat", "fstatat", "fstatvfs", "worgesli_forecast_table"];
+        let wrapped = calls.map(|c| format!(" -Wl,--wrap={c}")).concat();
         let (line, to) = line_of_the_readme();
         let checked = to.with_file_name("fetch-checked");
         let line = line.replace("examples/fetch.c", &format!("-U_FORTIFY_SOURCE {SANITIZED} examples/fetch.c tests/c/faults.c"));
@@ -144,16 +144,21 @@ struct Call {
     build: Build,
     usb: bool,
     names: Vec<String>,
-    /// of tests/c/faults.c: FAULTS, FAIL
+    /// -m
+    allows: Option<u64>,
+    /// of tests/c/faults.c: FAULTS, FAIL, FREE, FORECAST
     faults: Option<u64>,
     fail: Option<String>,
+    free: Option<u64>,
+    forecast: Option<u32>,
     /// blocks of 512 bytes that a file may have
     most: Option<u32>,
 }
 
 impl Call {
     fn new(build: Build) -> Call {
-        Call { build, usb: false, names: Vec::new(), faults: None, fail: None, most: None }
+        let (names, allows, faults, fail, free, forecast, most) = (Vec::new(), None, None, None, None, None, None);
+        Call { build, usb: false, names, allows, faults, fail, free, forecast, most }
     }
 
     fn spawn(&self, port: &str, stdin: Stdio, folder: &Path) -> Child {
@@ -166,8 +171,10 @@ impl Call {
                 shell
             }
         };
-        call.args(["-t", "1000"]).args(self.usb.then_some("-u")).arg(port).arg(folder).args(&self.names);
+        call.args(["-t", "1000"]).args(self.usb.then_some("-u")).args(self.allows.map(|n| format!("-m{n}")));
+        call.arg(port).arg(folder).args(&self.names);
         call.envs(self.faults.map(|seed| ("FAULTS", seed.to_string()))).envs(self.fail.clone().map(|f| ("FAIL", f)));
+        call.envs(self.free.map(|n| ("FREE", n.to_string()))).envs(self.forecast.map(|n| ("FORECAST", n.to_string())));
         started(call.stdin(stdin))
     }
 
@@ -277,6 +284,23 @@ fn sheet(regions: &[Region]) -> String {
     regions.iter().map(Region::line).collect()
 }
 
+/// How large the fetch of these regions is, as it says it: the regions, their bytes, and the memory reads with the table's.
+fn size(regions: &[Region]) -> [u64; 3] {
+    [regions.len() as u64, regions.iter().map(|r| r.len).sum(), 1 + regions.iter().map(|r| r.len.div_ceil(4096)).sum::<u64>()]
+}
+
+/// What it prints before it fetches these.
+fn forecast(regions: &[Region]) -> String {
+    let [n, bytes, reads] = size(regions);
+    format!("forecast: regions {n}, bytes {bytes}, memory reads {reads}\n")
+}
+
+/// And when it has fetched them.
+fn end(regions: &[Region]) -> String {
+    let [n, bytes, reads] = size(regions);
+    format!("every selected region is whole: regions {n}, bytes {bytes}, memory reads {reads}\n")
+}
+
 fn content(memory: &Memory, region: &Region) -> Vec<u8> {
     memory.bytes(region.base, region.len as usize)
 }
@@ -313,12 +337,10 @@ fn fetches() {
             assert_eq!(held(&files, &memory, &regions, &names), regions.len(), "{:?}", files.keys());
             assert_eq!(files.len(), regions.len());
             let device = device.unwrap();
-            let chunks: u64 = regions.iter().map(|r| r.len.div_ceil(4096)).sum();
-            assert_eq!((device.wrong(), device.reads()), (None, 1 + chunks));
-            // the sheet, a line for each region, and the end
+            assert_eq!((device.wrong(), device.reads()), (None, size(&regions)[2]));
+            // the sheet, the forecast, a line for each region, and the end
             let whole: String = names.iter().zip(&regions).map(|(name, r)| format!("{name}: {} bytes\n", r.len)).collect();
-            let end = format!("every selected region is whole: {}, with {} memory reads\n", regions.len(), 1 + chunks);
-            assert_eq!(said.out, sheet(&regions) + &whole + &end);
+            assert_eq!(said.out, sheet(&regions) + &forecast(&regions) + &whole + &end(&regions));
             let mode = |p: &Path| fs::metadata(p).unwrap().permissions().mode() & 0o777;
             assert_eq!(mode(&temporary.dump()), 0o700);
             assert!(names.iter().all(|n| mode(&temporary.dump().join(n)) == 0o600));
@@ -345,8 +367,10 @@ fn selected_by_name() {
         [Region::new("TAKE.BIN", 0, 10), Region::new("OCIMEM.BIN", 100, 20).unpreferred(), Region::new("OTHER.BIN", 200, 30)];
     for (build, width) in boards() {
         let memory = memory(width, 2, &regions);
-        for (names, files) in [(vec!["ocimem", "Take"], vec!["OCIMEM.BIN", "TAKE.BIN"]), (vec![], vec!["OTHER.BIN", "TAKE.BIN"])]
-        {
+        for (names, files, chosen) in [
+            (vec!["ocimem", "Take"], vec!["OCIMEM.BIN", "TAKE.BIN"], [regions[0], regions[1]]),
+            (vec![], vec!["OTHER.BIN", "TAKE.BIN"], [regions[0], regions[2]]),
+        ] {
             let temporary = Temporary::new();
             let call = Call { names: names.iter().map(|n| n.to_string()).collect(), ..Call::new(build) };
             let (said, _) = call.run(Device::dump(memory.clone()), 1, u64::MAX, &temporary.dump());
@@ -354,15 +378,18 @@ fn selected_by_name() {
                 (said.status, temporary.files().into_keys().collect::<Vec<_>>()),
                 (Some(0), files.iter().map(|f| f.to_string()).collect())
             );
-            // selected or not
-            assert!(said.out.starts_with(&sheet(&regions)), "{said:?}");
+            // selected or not; and how much is
+            assert!(
+                said.out.starts_with(&(sheet(&regions) + &forecast(&chosen))) && said.out.ends_with(&end(&chosen)),
+                "{said:?}"
+            );
         }
         // none of this name: no success
         let temporary = Temporary::new();
         let call = Call { names: vec!["-".into(), "TAKE.BIN".into(), String::new()], ..Call::new(build) };
         let (said, _) = call.run(Device::dump(memory.clone()), 1, u64::MAX, &temporary.dump());
         said.failed("the device has no region that is asked for");
-        assert_eq!((said.out, temporary.files().len()), (sheet(&regions), 0));
+        assert_eq!((said.out, temporary.files().len()), (sheet(&regions) + &forecast(&[]), 0));
     }
 }
 
@@ -390,15 +417,16 @@ fn names_that_would_move_a_cursor() {
         let memory = memory(width, 1, &regions);
         // Said::of looks at every byte
         let (said, _) = Call::new(build).run(Device::dump(memory), 1, u64::MAX, &temporary.dump());
-        let end = "A.BIN                0000000000000001 0000000000000002 *\nA.BIN: 2 bytes\n\
-                   every selected region is whole: 1, with 2 memory reads\n";
+        let end = "A.BIN                0000000000000001 0000000000000002 *\n\
+                   forecast: regions 1, bytes 2, memory reads 2\nA.BIN: 2 bytes\n\
+                   every selected region is whole: regions 1, bytes 2, memory reads 2\n";
         assert_eq!((said.status, said.out), (Some(0), format!("{due}{end}")));
     }
 }
 
-/// The sheet is there when the table is, and is not waited for until the end.
+/// Sheet and forecast are there when the table is, and are not waited for until the end.
 #[test]
-fn sheet_before_the_regions() {
+fn said_before_the_regions() {
     for (build, width) in boards() {
         let regions = [Region::new("A.BIN", 1, 2), Region::new("B.BIN", 3, 4).unpreferred()];
         let temporary = Temporary::new();
@@ -410,11 +438,106 @@ fn sheet_before_the_regions() {
         far.write_all(&[hello(2), width.mem_debug(memory.table_at(), memory.table_len())].concat()).unwrap();
         far.read_exact(&mut packet).unwrap();
         far.write_all(memory.table()).unwrap();
-        let mut said = vec![0; sheet(&regions).len()];
+        let due = sheet(&regions) + &forecast(&regions[..1]);
+        let mut said = vec![0; due.len()];
         child.stdout.as_mut().unwrap().read_exact(&mut said).unwrap();
-        assert_eq!((String::from_utf8(said).unwrap(), child.try_wait().unwrap()), (sheet(&regions), None));
+        assert_eq!((String::from_utf8(said).unwrap(), child.try_wait().unwrap()), (due, None));
         drop(far);
         assert_eq!(Said::of(child).out, "");
+    }
+}
+
+// ---- how much it is
+
+/// More bytes than the caller allows: nothing of a region is asked for. Just as many: all is fetched. What no name selects does not count.
+#[test]
+fn more_than_is_allowed() {
+    let regions =
+        [Region::new("A.BIN", 0, 5000), Region::new("B.BIN", 1 << 20, 1 << 30).unpreferred(), Region::new("C.BIN", 9, 3)];
+    let (chosen, names) = ([regions[0], regions[2]], ["A.BIN", "C.BIN"].map(String::from));
+    for (build, width) in boards() {
+        let memory = memory(width, 3, &regions);
+        for allows in [0, 5002, 5003, u64::MAX - 1, u64::MAX] {
+            let temporary = Temporary::new();
+            let call = Call { allows: Some(allows), ..Call::new(build) };
+            let (said, device) = call.run(Device::dump(memory.clone()), 1, u64::MAX, &temporary.dump());
+            if allows < 5003 {
+                said.failed("nothing was fetched: there is more than -m allows");
+                assert_eq!(said.out, sheet(&regions) + &forecast(&chosen));
+                assert_eq!((device.unwrap().reads(), temporary.files().len()), (1, 0));
+            } else {
+                assert_eq!(said.status, Some(0), "{said:?}");
+                assert_eq!(held(&temporary.files(), &memory, &chosen, &names), 2);
+            }
+        }
+        // without a byte it fits, whatever is allowed
+        let empty = [Region::new("E.BIN", 9, 0)];
+        let (temporary, call) = (Temporary::new(), Call { allows: Some(0), ..Call::new(build) });
+        let (said, _) = call.run(Device::dump(self::memory(width, 3, &empty)), 1, u64::MAX, &temporary.dump());
+        assert_eq!((said.status, temporary.files().len()), (Some(0), 1), "{said:?}");
+    }
+}
+
+/// Lengths that are no number together are more than any that is allowed. Where none is said, the regions before come first.
+#[test]
+fn lengths_without_a_sum() {
+    let regions = [Region::new("A.BIN", 7, 5000), Region::new("B.BIN", 0, 1 << 63), Region::new("C.BIN", 0, 1 << 63)];
+    let memory = memory(Width::Bits64, 3, &regions);
+    let opening = 48 + 24 + memory.table_len();
+    for build in builds() {
+        for allows in [None, Some(u64::MAX), Some(u64::MAX - 1)] {
+            let temporary = Temporary::new();
+            let call = Call { allows, ..Call::new(build) };
+            let (said, device) = call.run(Device::dump(memory.clone()), 1, opening + 6000, &temporary.dump());
+            let why = "fetch: no forecast: the bytes or the memory reads of a forecast are above 2^64 - 1\n";
+            assert!(said.error.starts_with(why), "{said:?}");
+            if allows == Some(u64::MAX - 1) {
+                said.failed("nothing was fetched: there is more than -m allows");
+                assert_eq!((device.unwrap().reads(), temporary.files().len()), (1, 0));
+            } else {
+                said.failed("NOT whole: B.BIN.part has 1000 of 9223372036854775808 bytes");
+                assert!(temporary.files()["A.BIN"] == memory.bytes(7, 5000));
+            }
+            assert!(said.out.starts_with(&sheet(&regions)) && !said.out.contains("forecast"), "{said:?}");
+        }
+    }
+}
+
+/// Less free space than that is warned of, and the fetch is made: by blocks, of which the last may be filled in part. Where it cannot be told there is no
+/// warning.
+#[test]
+fn free_space() {
+    let Some(_) = example(Build::Checked) else { return };
+    let regions = [Region::new("A.BIN", 0, 1000), Region::new("B.BIN", 1 << 20, 25)];
+    for (free, fail, warned) in
+        [(3, None, false), (2, None, true), (0, None, true), (1 << 62, None, false), (0, Some("fstatvfs:1:38"), false)]
+    {
+        for width in Width::BOTH {
+            let temporary = Temporary::new();
+            let call = Call { free: Some(free), fail: fail.map(String::from), ..Call::new(Build::Checked) };
+            let (said, _) = call.run(Device::dump(memory(width, 3, &regions)), 1, u64::MAX, &temporary.dump());
+            let due = if warned { format!("fetch: warning: only {free} blocks of 512 bytes are free\n") } else { String::new() };
+            assert_eq!((said.status, said.error), (Some(0), due), "{free}");
+            assert_eq!(temporary.files().len(), 2);
+        }
+    }
+    // an empty fetch needs none
+    let (temporary, call) = (Temporary::new(), Call { free: Some(0), ..Call::new(Build::Checked) });
+    let (said, _) = call.run(Device::dump(memory(Width::Bits32, 3, &[Region::new("E", 0, 0)])), 1, u64::MAX, &temporary.dump());
+    assert_eq!((said.status, said.error.as_str()), (Some(0), ""));
+}
+
+/// Where it is not as forecast, that is no success.
+#[test]
+fn another_forecast() {
+    let Some(_) = example(Build::Checked) else { return };
+    let regions = [Region::new("A.BIN", 0, 5000), Region::new("B.BIN", 1 << 20, 25)];
+    for (place, width) in Width::with_both(0..3) {
+        let temporary = Temporary::new();
+        let call = Call { forecast: Some(place), ..Call::new(Build::Checked) };
+        let (said, _) = call.run(Device::dump(memory(width, 3, &regions)), 1, u64::MAX, &temporary.dump());
+        said.failed("what was fetched is not what was forecast");
+        assert!(said.error.contains("whole regions: 2\n") && temporary.files().len() == 2, "{said:?}");
     }
 }
 
@@ -612,7 +735,9 @@ fn other_devices() {
             let (said, _) = Call::new(build).run(device, 1, u64::MAX, &temporary.dump());
             said.failed(why);
             // where there is a table people see what it is refused for
-            assert_eq!(said.out, i.checked_sub(first).map_or(String::new(), |i| unsound[i].line()));
+            let shown = |i: usize| unsound[i].line() + &forecast(&unsound[i..=i]);
+            let empty = if i + 1 == first { forecast(&[]) } else { String::new() };
+            assert_eq!(said.out, i.checked_sub(first).map_or(empty, shown));
             // at most a part, of a region that was opened and then refused
             assert!(temporary.files().iter().all(|(name, bytes)| name == "X.part" && bytes.is_empty()));
         }
@@ -647,6 +772,11 @@ fn wrong_calls() {
             &["-t", "5x", "0", "dump"],
             &["-t", "999999999", "0", "dump"],
             &["-t"],
+            &["-m", "5x", "0", "dump"],
+            &["-m", "", "0", "dump"],
+            &["-m", "-1", "0", "dump"],
+            &["-m", "18446744073709551616", "0", "dump"],
+            &["-m"],
             &[&["0", "dump"], &names[..]].concat(),
         ];
         for args in usage {

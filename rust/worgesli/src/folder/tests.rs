@@ -670,3 +670,67 @@ fn sheet_of_a_process_before() {
         synced_sheets(&disk, &folder, 1);
     }
 }
+
+/// Whether a folder under this limit takes regions of so many bytes in all.
+fn takes(folder: &mut Folder, limit: u64, bytes: u64) -> bool {
+    folder.set_limit(limit);
+    match folder.forecast(Ok(Forecast { regions: 1, bytes, reads: 1 + bytes.div_ceil(4096) })) {
+        Ok(()) => true,
+        Err(e) => {
+            assert_eq!(e.kind(), ErrorKind::QuotaExceeded);
+            false
+        }
+    }
+}
+
+/// What counts beside a forecast is what was written, as when a region is opened: of whole regions, of those that were lost, and of the open one; also in a
+/// folder that is resumed.
+#[test]
+fn forecast_and_what_was_written() {
+    let world = World::new();
+    let (entry, bytes) = &world.0[1];
+    let t = Temporary::new();
+    let disk = Shaky::new(&t.0, None);
+    let mut folder = Folder::on(disk.clone(), &t.0).unwrap();
+    let exact = |folder: &mut Folder, written: u64| {
+        let lots = u64::MAX - 1;
+        assert!(takes(folder, written + 700, 700) && !takes(folder, written + 699, 700), "{written} were written");
+        assert!(takes(folder, lots, lots - written) && !takes(folder, lots, lots - written + 1));
+        assert!(!takes(folder, lots, u64::MAX) && takes(folder, u64::MAX, u64::MAX));
+        // nothing to come is not refused; lengths without a sum are above every limit
+        folder.set_limit(0);
+        folder.forecast(Ok(Forecast { regions: 0, bytes: 0, reads: 1 })).unwrap();
+        folder.forecast(Err(Refusal::new(27))).unwrap_err();
+        folder.set_limit(u64::MAX);
+        folder.forecast(Err(Refusal::new(27))).unwrap();
+    };
+    exact(&mut folder, 0);
+    folder.open(1, entry).unwrap();
+    exact(&mut folder, 0);
+    assert_eq!(folder.bytes(&bytes[..500]).unwrap(), 500);
+    exact(&mut folder, 500);
+    disk.fail_next("sync", 5);
+    lost(folder.checkpoint());
+    assert_eq!(folder.bytes(&bytes[500..]).unwrap(), 200);
+    // it is lost, and still written to
+    exact(&mut folder, 700);
+    lost(folder.close(1));
+    exact(&mut folder, 700);
+    // it comes again, under a limit that the forecast and its open are of one mind about
+    assert!(!takes(&mut folder, 1399, 700));
+    assert_eq!(folder.open(1, entry).unwrap_err().kind(), ErrorKind::QuotaExceeded);
+    assert!(takes(&mut folder, 1400, 700));
+    folder.open(1, entry).unwrap();
+    assert_eq!(folder.bytes(&bytes[..600]).unwrap(), 600);
+    exact(&mut folder, 700 + 600);
+    folder.checkpoint().unwrap();
+    let manifest = folder.manifest_path().to_owned();
+    drop(folder);
+    let mut folder = Folder::resume_on(disk.clone(), &manifest).unwrap();
+    exact(&mut folder, 700 + 600);
+    folder.reopen(1, entry, 400).unwrap();
+    exact(&mut folder, 700 + 400);
+    assert_eq!(folder.bytes(&bytes[400..]).unwrap(), 300);
+    folder.close(1).unwrap();
+    exact(&mut folder, 700 + 700);
+}

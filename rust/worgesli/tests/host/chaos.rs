@@ -5,7 +5,7 @@ use device::{Device, Division, Faults, Rng, Wire};
 use std::cell::RefCell;
 use std::io::{self, ErrorKind, Read, Write};
 use std::panic::{catch_unwind, resume_unwind, AssertUnwindSafe};
-use worgesli::{Entry, Error, Outcome, Sink, Unkept, Width};
+use worgesli::{Entry, Error, Forecast, Outcome, Refusal, Sink, Unkept, Width};
 
 /// The same dice for all.
 struct Dice(RefCell<Rng>);
@@ -52,8 +52,8 @@ impl Write for Channel<'_> {
     }
 }
 
-/// Keeps regions and the table, which comes first; a region that is opened anew was lost.
-struct Keeper<'a>(Record, &'a Dice, usize, Option<Vec<u8>>);
+/// Keeps regions, and what comes first: the table, and the first forecast behind it. A region that is opened anew was lost.
+struct Keeper<'a>(Record, &'a Dice, usize, Option<Vec<u8>>, Option<Forecast>);
 
 impl Sink for Keeper<'_> {
     fn table(&mut self, table: &[u8], _: Width) -> io::Result<()> {
@@ -61,8 +61,14 @@ impl Sink for Keeper<'_> {
         self.3 = Some(table.to_vec());
         Ok(())
     }
-    fn open(&mut self, place: usize, entry: &Entry) -> io::Result<()> {
+    fn forecast(&mut self, forecast: Result<Forecast, Refusal>) -> io::Result<()> {
         assert!(self.3.is_some());
+        self.1.roll()?;
+        self.4.get_or_insert(forecast.unwrap());
+        Ok(())
+    }
+    fn open(&mut self, place: usize, entry: &Entry) -> io::Result<()> {
+        assert!(self.4.is_some());
         self.1.roll()?;
         if self.0 .0.last().is_some_and(|r| !r.closed) {
             assert_eq!(self.0 .0.pop().unwrap().place, place);
@@ -102,7 +108,7 @@ fn everything_at_once() {
         let wire = Wire::new(Device::dump(w.memory.clone()), Division::Random, seed);
         let faults = Faults { short_writes: seed % 2 == 0, buffered: seed % 3 == 0, ..Faults::default() };
         let mut channel = Channel(wire.with(faults), &dice);
-        let mut sink = Keeper(Record::default(), &dice, [0, 1000, 5000, 65_536][seed as usize % 4], None);
+        let mut sink = Keeper(Record::default(), &dice, [0, 1000, 5000, 65_536][seed as usize % 4], None, None);
         let mut run = w.options().timeouts(seed as u32 % 3).start().unwrap();
         let end = loop {
             let whole = dice.one_in(2);
@@ -124,6 +130,7 @@ fn everything_at_once() {
         let Outcome::Dumped { reads } = end else { panic!("seed {seed}, {w:?}: {end:?}") };
         assert_eq!(sink.0 .0, w.kept(), "seed {seed}, {w:?}");
         assert_eq!(sink.3.as_deref(), Some(w.memory.table()), "seed {seed}, {w:?}");
+        assert_eq!((sink.4, run.forecast()), (Some(w.forecast()), Ok(Some(w.forecast()))), "seed {seed}, {w:?}");
         let device = &channel.0.device;
         assert_eq!((device.wrong(), device.queued(), device.reads()), (None, 0, reads), "seed {seed}, {w:?}");
     }

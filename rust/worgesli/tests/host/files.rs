@@ -15,11 +15,19 @@ pub struct Temporary(pub PathBuf);
 
 impl Temporary {
     pub fn new() -> Temporary {
+        Temporary::within(&std::env::temp_dir()).unwrap()
+    }
+
+    /// In memory, where that can be had: for tests that sync some thousand files.
+    pub fn in_memory() -> Temporary {
+        Temporary::within("/dev/shm".as_ref()).unwrap_or_else(|_| Temporary::new())
+    }
+
+    fn within(folder: &Path) -> std::io::Result<Temporary> {
         static NEXT: AtomicU32 = AtomicU32::new(0);
         let n = NEXT.fetch_add(1, Ordering::Relaxed);
-        let path = std::env::temp_dir().join(format!("worgesli-test-{}-{n}", std::process::id()));
-        fs::create_dir(&path).unwrap();
-        Temporary(path)
+        let path = folder.join(format!("worgesli-test-{}-{n}", std::process::id()));
+        fs::create_dir(&path).map(|()| Temporary(path))
     }
 
     pub fn dump(&self) -> PathBuf {
@@ -306,26 +314,27 @@ fn for_the_owner_alone() {
     }
 }
 
-/// A table cannot make it write more than the caller allows; with more allowed the run goes on.
+/// A sink of its own that a limit is told region by region: each would bring the sum above it, or not. With more allowed it goes on. (What a limit does to a
+/// run stands in forecast_files.rs.)
 #[test]
 fn limit() {
     for width in Width::BOTH {
         let t = Temporary::new();
-        let regions = [Region::new("A", 0, 5000), Region::new("B", 0, 5001), Region::new("C", 0, width.half())];
-        let (memory, mut wire, mut driver) = start(width, &regions, Faults::default());
-        let mut sink = Folder::new(t.dump()).unwrap().limit(10_000);
-        let mut refused = |sink: &mut Folder| match driver.run(&mut wire, sink, |_| ()) {
-            Err(Error::Sink(e)) => (e.kind(), e.to_string()),
-            end => panic!("{end:?}"),
-        };
-        let (kind, why) = refused(&mut sink);
-        assert_eq!(kind, ErrorKind::QuotaExceeded);
+        let regions = [Region::new("A", 0, 5000), Region::new("B", 0, 5001)];
+        let mut sink = Folder::new(t.dump()).unwrap();
+        let (memory, _) = fetch(width, &regions[..1], &mut sink);
+        sink.set_limit(10_000);
+        let why = sink.open(1, &entry(b"B", 0, 5001)).unwrap_err();
+        assert_eq!(why.kind(), ErrorKind::QuotaExceeded);
+        let why = why.to_string();
         assert!(why.contains("10001") && why.contains("10000"), "{why}");
         assert_eq!(t.names(), ["A", "manifest~1.tsv", "regions~1.txt"]);
         sink.set_limit(10_001);
-        assert_eq!(refused(&mut sink).0, ErrorKind::QuotaExceeded);
+        sink.open(1, &entry(b"B", 0, 5001)).unwrap();
+        keep(&mut sink, &memory.bytes(0, 5001));
+        sink.close(1).unwrap();
+        assert_eq!(sink.open(2, &entry(b"C", 0, width.half())).unwrap_err().kind(), ErrorKind::QuotaExceeded);
         assert_eq!(t.names(), ["A", "B", "manifest~1.tsv", "regions~1.txt"]);
-        assert!(t.read("B") == memory.bytes(0, 5001));
         // lengths that are no number together
         sink.open(3, &entry(b"D", 0, u64::MAX)).unwrap_err();
         // without a limit any length is begun, and no more than it is taken

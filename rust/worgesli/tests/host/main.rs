@@ -5,6 +5,8 @@ mod chaos;
 mod faults;
 mod fetch;
 mod files;
+mod forecast;
+mod forecast_files;
 mod guard;
 mod operations;
 mod panics;

@@ -4,7 +4,7 @@ use device::{Device, Division, Wire};
 use std::cell::Cell;
 use std::io::{self, Read, Write};
 use std::panic::{catch_unwind, resume_unwind, AssertUnwindSafe};
-use worgesli::{Entry, Outcome, Sink, Unkept, Width};
+use worgesli::{Entry, Forecast, Outcome, Refusal, Sink, Unkept, Width};
 
 /// Panics at one of its calls.
 struct Fuse(Cell<u64>);
@@ -26,6 +26,10 @@ impl Sink for Shaky<'_, Record> {
     fn table(&mut self, table: &[u8], width: Width) -> io::Result<()> {
         self.1.burn();
         self.0.table(table, width)
+    }
+    fn forecast(&mut self, forecast: Result<Forecast, Refusal>) -> io::Result<()> {
+        self.1.burn();
+        self.0.forecast(forecast)
     }
     fn open(&mut self, place: usize, entry: &Entry) -> io::Result<()> {
         self.1.burn();

@@ -210,6 +210,55 @@ fn told_by_each_process() {
     assert!(told > 3000 && reopened > 1000, "{told} {reopened}");
 }
 
+/// A region of an earlier process, with which a sink could not go on, or which it lost: another sink that goes on is told first, by each kind of call.
+#[test]
+fn another_sink_in_a_region() {
+    struct Loses(bool);
+    impl Sink for Loses {
+        fn open(&mut self, _: usize, _: &Entry) -> io::Result<()> {
+            unreachable!("it has lost the region, and is not asked again")
+        }
+        fn bytes(&mut self, _: &[u8]) -> io::Result<usize> {
+            unreachable!("it has no region")
+        }
+        fn close(&mut self, _: usize) -> Result<(), Unkept> {
+            unreachable!("it has no region")
+        }
+        fn reopen(&mut self, _: usize, _: &Entry, _: u64) -> Result<(), Unkept> {
+            let e = ErrorKind::StorageFull.into();
+            Err(if self.0 { Unkept::Lost(e) } else { Unkept::Again(e) })
+        }
+    }
+    for ((first, then, lost), width) in
+        Width::with_both((0..4).flat_map(|first| (0..4).flat_map(move |then| [(first, then, false), (first, then, true)])))
+    {
+        let w = two_regions(width, Backend::Serial);
+        let (mut wire, mut sink) = (wire(&w, Division::AtMost(1000), 1), Ear::new(Cut::default()));
+        let mut run = w.options().start().unwrap();
+        while run.session().raw().done < 5000 {
+            run.step(&mut wire, &mut sink, |_| ()).unwrap();
+        }
+        let (mut run, mut sink) = (w.options().restore(&run.save()).unwrap(), sink.in_another());
+        fn call(way: u64, run: &mut Driver, wire: &mut Wire, sink: &mut impl Sink) -> Result<(), Error> {
+            match way {
+                0 => run.run(wire, sink, |_| ()).map(drop),
+                1 => run.step(wire, sink, |_| ()).map(drop),
+                2 => run.resync(wire, sink),
+                _ => run.close(sink).map(drop),
+            }
+        }
+        assert!(is_full(&call(first, &mut run, &mut wire, &mut Ear::new(Loses(lost))).unwrap_err()));
+        call(then, &mut run, &mut wire, &mut sink).unwrap();
+        sink.table_first(&w);
+        if then < 3 {
+            if run.session().phase() != Phase::Ended {
+                run_on(&mut run, &mut wire, &mut sink);
+            }
+            assert!(sink.to.0 .0 == w.kept(), "{first} {then} {lost}");
+        }
+    }
+}
+
 /// A process that left an open or a close owed: the next one is told before it makes it.
 #[test]
 fn told_before_what_is_owed() {

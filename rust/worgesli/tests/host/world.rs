@@ -2,7 +2,7 @@
 use device::{Memory, Region, Rng, Width};
 use std::ops::Range;
 use std::{fmt, io};
-use worgesli::{Backend, Entry, Mode, Options, Sink, Unkept};
+use worgesli::{Backend, Entry, Forecast, Mode, Options, Sink, Unkept};
 
 /// A region as it came out: its place, its entry's filename, its bytes, and whether it was closed.
 #[derive(Clone, Debug, PartialEq, Eq)]
@@ -185,6 +185,22 @@ impl World {
 
     pub fn memory_reads(&self) -> u64 {
         1 + self.chunks().len() as u64
+    }
+
+    /// How large a whole fetch is.
+    pub fn forecast(&self) -> Forecast {
+        self.forecast_from(0)
+    }
+
+    /// The same of the regions from a place on.
+    pub fn forecast_from(&self, place: usize) -> Forecast {
+        let lens = self.selected().into_iter().filter(|p| *p >= place).map(|p| self.regions[p].len);
+        let of = |f: Forecast, len: u64| Forecast {
+            regions: f.regions + 1,
+            bytes: f.bytes + len,
+            reads: f.reads + len.div_ceil(4096),
+        };
+        lens.fold(Forecast { regions: 0, bytes: 0, reads: 1 }, of)
     }
 
     pub fn empty_reads(&self) -> u64 {
