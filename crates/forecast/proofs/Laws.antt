@@ -1,22 +1,25 @@
 -- Laws of the forecast: what an answer that is no refusal tells, and that the sums of the functions come to the definition's. Assumes nothing.
-use mathlib.Core.Path.{_≡_, refl, sym, _∙_}
+use mathlib.Core.Path.{_≡_, refl, sym, ap, subst, _∙_}
 use mathlib.Core.Bool.{true, false, not, _||_}
 use mathlib.Core.List.{List, [], _∷_}
-use Prim.Native.Nat.{ℕ, suc, _+_, _-_, _%_, _^_, _≤_, _<_}
+use Prim.Native.Nat.{ℕ, zero, suc, _+_, _-_, _%_, _^_, _≤_, _<_}
 use native.Mathlib.Numerals.{add-one}
 use native.Mathlib.Omega.{arith}
-use native.Mathlib.Nat.{add-zero, zero-add, add-assoc, mod-eq-of-lt}
+use native.Mathlib.Nat.{add-zero, zero-add, add-assoc, sub-zero, mod-eq-of-lt}
 use borrow.Author.Tests.{lt-ltb, ltb-true}
 use lib.Dec.{eqb}
 use lib.ListN.{length}
 use Rattle.base.specs.Choice.{pick}
-use Rattle.base.proofs.Ranges.{by-test, by-else}
+use Rattle.base.proofs.Ranges.{by-test, by-else, either}
 use Rattle.bundle.specs.Bundle.{wellFormed}
-use Rattle.entry.specs.Entry.{entryIn, entriesFrom}
+use Rattle.entry.specs.Entry.{entriesIn, entryIn, entriesFrom}
 use Rattle.entry.specs.declared.RamdumpTable64.{RamdumpTable64}
+use Rattle.entry.proofs.Laws.{there-below}
+use Rattle.selection.specs.Selection.{selected, selectedAt, nextOf}
+use Rattle.selection.proofs.Laws.{next-here, next-on, next-none, next-selected}
 use Rattle.verdict.specs.Opening.{chunksIn}
 use Rattle.forecast.specs.Forecast.{isSelected, selectedOf, summed, regionsNeeded, bytesNeeded, readsNeeded, passes, forecastOf}
-use Rattle.forecast.specs.Sums.{refusedSums, startOf, moreOf, addOf, addAll, foreseenOf}
+use Rattle.forecast.specs.Sums.{refusedSums, startOf, moreOf, addAll, foreseenOf}
 use Rattle.forecast.specs.declared.Foreseen.{Foreseen}
 use Rattle.forecast.specs.declared.Foreseen.the-variants as F
 use Rattle.forecast.specs.declared.Sums.{Sums}
@@ -64,7 +67,7 @@ module _ (c : ℕ) (names : List ℕ) where
   stays : (es : List RamdumpTable64) (s : Sums) → eqb (s .refused) 0 ≡ false → addAll c names s es ≡ s
   unfolding addAll
   stays [] s h = refl
-  stays (e ∷ es) s h = rw h (stays es s h)
+  stays (e ∷ es) s h = rw (h, either (isSelected names e) s) (stays es s h)
 
   refused-27 : (es : List RamdumpTable64) → foreseenOf (addAll c names (refusedSums 27) es) ≡ F.Refused 27
   refused-27 es = rw (stays es (refusedSums 27) refl) refl
@@ -104,13 +107,13 @@ module _ (c : ℕ) (names : List ℕ) where
     unfolding selectedOf
     selected-no i = rw i refl
 
-    add-yes : (n b r : ℕ) → isSelected names e ≡ true → addAll c names (sums n b r) (e ∷ es) ≡ addAll c names (moreOf c (sums n b r) (e .len)) es
+    add-yes : (s : Sums) → isSelected names e ≡ true → addAll c names s (e ∷ es) ≡ addAll c names (moreOf c s (e .len)) es
     unfolding addAll
-    add-yes n b r i = rw i refl
+    add-yes s i = rw i refl
 
-    add-no : (n b r : ℕ) → isSelected names e ≡ false → addAll c names (sums n b r) (e ∷ es) ≡ addAll c names (sums n b r) es
+    add-no : (s : Sums) → isSelected names e ≡ false → addAll c names s (e ∷ es) ≡ addAll c names s es
     unfolding addAll
-    add-no n b r i = rw i refl
+    add-no s i = rw i refl
 
   add-none : (s : Sums) → addAll c names s [] ≡ s
   unfolding addAll
@@ -126,9 +129,9 @@ module _ (c : ℕ) (names : List ℕ) where
   total (e ∷ es) n b r h x y =
       by-test (isSelected names e)
       (λ i.
-      rw (add-yes e es n b r i, selected-yes e es i)
+      rw (add-yes e es (sums n b r) i, selected-yes e es i)
       (one-more es n b r (e .len) (chunksIn c (e .len)) (omega arith) (λ j l. total es (n + 1) (b + e .len) (r + chunksIn c (e .len)) (omega arith) j l)))
-      (λ i. rw (add-no e es n b r i, selected-no e es i) (total es n b r (omega arith) x y))
+      (λ i. rw (add-no e es (sums n b r) i, selected-no e es i) (total es n b r (omega arith) x y))
 
   -- the sums of a list that is lent come to its forecast
   pub sums-are : (es : List RamdumpTable64) → length es < 2 ^ 64 → foreseenOf (addAll c names (startOf names) es) ≡ forecastOf c es names
@@ -138,12 +141,88 @@ module _ (c : ℕ) (names : List ℕ) where
       (λ e. rw e (total es 0 0 1 (omega arith) refl refl ∙ rw (zero-add (regionsNeeded names es), zero-add (bytesNeeded names es)) refl))
       (λ e. rw (e, stays es (refusedSums 26) refl) refl)
 
-  -- one more entry of a table, of those from i on
-  pub from-here : (f : ℕ) (t : List ℕ) (k i : ℕ) (s : Sums)
-      → addAll c names (addOf c names s (entryIn f t i)) (entriesFrom f t k (i + 1)) ≡ addAll c names s (entriesFrom f t (suc k) i)
-  unfolding addAll entriesFrom
-  from-here f t k i s = rw (add-one i) refl
+  -- ---- the entries of a table t, f bytes a number
 
-  pub none-more : (f : ℕ) (t : List ℕ) (i : ℕ) (s : Sums) → addAll c names s (entriesFrom f t 0 i) ≡ s
-  unfolding addAll entriesFrom
-  none-more f t i s = refl
+  module _ (f : ℕ) (t : List ℕ) where
+    none-more : (i : ℕ) (s : Sums) → addAll c names s (entriesFrom f t 0 i) ≡ s
+    unfolding addAll entriesFrom
+    none-more i s = refl
+
+    -- an entry that is there is selected or not, decoded or by its place
+    selected-alike : (i : ℕ) → i < entriesIn f (length t) → selectedAt f names t i ≡ isSelected names (entryIn f t i)
+    unfolding selected isSelected
+    selected-alike i h = rw (there-below f t i, lt-ltb i (entriesIn f (length t)) h) refl
+
+    -- one more, that is selected
+    one-taken : (k i : ℕ) (s : Sums) → isSelected names (entryIn f t i) ≡ true
+        → addAll c names (moreOf c s (entryIn f t i .len)) (entriesFrom f t k (suc i)) ≡ addAll c names s (entriesFrom f t (suc k) i)
+    unfolding entriesFrom
+    one-taken k i s h = sym (add-yes (entryIn f t i) (entriesFrom f t k (suc i)) s h)
+
+    one-passed : (k i : ℕ) (s : Sums) → isSelected names (entryIn f t i) ≡ false
+        → addAll c names s (entriesFrom f t (suc k) i) ≡ addAll c names s (entriesFrom f t k (suc i))
+    unfolding entriesFrom
+    one-passed k i s h = add-no (entryIn f t i) (entriesFrom f t k (suc i)) s h
+
+    -- up to the next selected one nothing is added: of k entries from i on
+    passed : (k i : ℕ) (s : Sums) → i + k ≤ entriesIn f (length t)
+        → addAll c names s (entriesFrom f t k i)
+        ≡ addAll c names s (entriesFrom f t (i + k - nextOf f names t k i) (nextOf f names t k i))
+    passed zero i s h =
+        let e : i + 0 - i ≡ 0 = omega arith in
+        rw (next-none f names t i, e) refl
+    passed (suc k) i s h =
+        let q : selectedAt f names t i ≡ isSelected names (entryIn f t i) = selected-alike i (omega arith) in
+        by-test (isSelected names (entryIn f t i))
+        (λ j.
+        let e : i + suc k - i ≡ suc k = omega arith in
+        rw (next-here f names t k i (q ∙ j), e) refl)
+        (λ j.
+        let e : i + suc k ≡ suc i + k = omega arith in
+        rw (next-on f names t k i (q ∙ j), e) (one-passed k i s j ∙ passed k (suc i) s (omega arith)))
+
+    -- the next selected one of n entries is taken, and the search goes on behind it
+    taken : (n i : ℕ) (s : Sums) → n ≤ entriesIn f (length t) → i < n → selectedAt f names t i ≡ true
+        → (let j = nextOf f names t (n - (i + 1)) (i + 1) in
+        addAll c names (moreOf c s (entryIn f t i .len)) (entriesFrom f t (n - j) j) ≡ addAll c names s (entriesFrom f t (n - i) i))
+    taken n i s h l e =
+        let j : ℕ = nextOf f names t (n - suc i) (suc i) in
+        let k : n - i ≡ suc (n - suc i) = omega arith in
+        let m : suc i + (n - suc i) ≡ n = omega arith in
+        rw (add-one i, k)
+        (sym (passed (n - suc i) (suc i) (moreOf c s (entryIn f t i .len)) (omega arith) ∙ ap (λ (x : ℕ). addAll c names (moreOf c s (entryIn f t i .len)) (entriesFrom f t (x - j) j)) m)
+        ∙ one-taken (n - suc i) i s (sym (selected-alike i (omega arith)) ∙ e))
+
+    -- behind the last
+    pub finished : (n i : ℕ) (s : Sums) → n ≤ i → addAll c names s (entriesFrom f t (n - i) i) ≡ s
+    finished n i s h =
+        let e : n - i ≡ 0 = omega arith in
+        rw e (none-more i s)
+
+    -- where the search begins, and where it goes on: at n, or at a selected entry, and the sums with what is left are the same
+    pub record Searched (n i : ℕ) (s whole : Sums) : Type 0 where
+      pub here : i < n → selectedAt f names t i ≡ true
+      pub same : addAll c names s (entriesFrom f t (n - i) i) ≡ whole
+
+    pub begins : (n i : ℕ) (s : Sums) → n ≤ entriesIn f (length t) → i ≡ nextOf f names t (n - 0) 0
+        → Searched n i s (addAll c names s (entriesFrom f t n 0))
+    begins n i s h e =
+        let j : ℕ = nextOf f names t n 0 in
+        let k : i ≡ j = e ∙ ap (λ (x : ℕ). nextOf f names t x 0) (sub-zero n) in
+        record {
+          here = λ l. rw k (next-selected f names t n 0 (omega (arith, k, l)));
+          same =
+              subst (λ (x : ℕ). addAll c names s (entriesFrom f t (n - x) x) ≡ addAll c names s (entriesFrom f t n 0)) (sym k)
+              (sym (passed n 0 s (omega arith) ∙ ap (λ (x : ℕ). addAll c names s (entriesFrom f t (x - j) j)) (zero-add n)));
+        }
+
+    pub goes-on : (n i j : ℕ) (s z whole : Sums) → n ≤ entriesIn f (length t) → i < n → Searched n i s whole
+        → z ≡ moreOf c s (entryIn f t i .len) → j ≡ nextOf f names t (n - (i + 1)) (i + 1) → Searched n j z whole
+    goes-on n i j s z whole h l g e k =
+        record {
+          here = λ m. rw k (next-selected f names t (n - (i + 1)) (i + 1) (omega (arith, k, m)));
+          same =
+              subst (λ (x : ℕ). addAll c names z (entriesFrom f t (n - x) x) ≡ whole) (sym k)
+              (subst (λ (x : Sums). addAll c names x (entriesFrom f t (n - nextOf f names t (n - (i + 1)) (i + 1)) (nextOf f names t (n - (i + 1)) (i + 1))) ≡ whole) (sym e)
+              (taken n i s h l (g .here l) ∙ g .same));
+        }

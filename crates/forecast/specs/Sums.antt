@@ -21,16 +21,18 @@ refusedSums why = record { regions = 0; bytes = 0; reads = 0; refused = why }
 abbrev pub startOf : List ℕ → Sums
 startOf names = pick (wellFormed false names) (record { regions = 0; bytes = 0; reads = 1; refused = 0 }) (refusedSums 26)
 
--- with a selected entry more; the regions modulo 2^64, which no list that is lent comes to
+-- with a selected region more, of this length; what is refused stays so. The regions modulo 2^64, which no list that is lent comes to
 abbrev pub moreOf : ℕ → Sums → ℕ → Sums
 moreOf c s len =
-    pick (passes (s .bytes + len)) (refusedSums 27)
+    pick (eqb (s .refused) 0)
+    (pick (passes (s .bytes + len)) (refusedSums 27)
     (pick (passes (s .reads + chunksIn c len)) (refusedSums 27)
-    (record { regions = (s .regions + 1) % 2 ^ 64; bytes = s .bytes + len; reads = s .reads + chunksIn c len; refused = 0 }))
+    (record { regions = (s .regions + 1) % 2 ^ 64; bytes = s .bytes + len; reads = s .reads + chunksIn c len; refused = 0 })))
+    s
 
--- with any entry more: what is refused stays so
+-- with any entry more
 abbrev pub addOf : ℕ → List ℕ → Sums → RamdumpTable64 → Sums
-addOf c names s e = pick (eqb (s .refused) 0) (pick (isSelected names e) (moreOf c s (e .len)) s) s
+addOf c names s e = pick (isSelected names e) (moreOf c s (e .len)) s
 
 unfoldable pub addAll : ℕ → List ℕ → Sums → List RamdumpTable64 → Sums
 addAll c names s [] = s

@@ -5,6 +5,7 @@ use entry::RamdumpTable64;
 use entry::entries_in;
 use entry::entry_at;
 use field::Width;
+use selection::next_selected;
 use selection::selects;
 ghost use mathlib.Core.Path.{_≡_};
 ghost use Prim.Native.Nat.{_≤_};
@@ -71,10 +72,13 @@ fn start(names: &[u8]) -> Sums
     }
 }
 
-// With a selected region more. No sum is made that passes 2^64 - 1; the regions are counted modulo 2^64, and no list has so many.
+// With a selected region more; what is refused stays so. No sum is made that passes 2^64 - 1; the regions are counted modulo 2^64, and no list has so many.
 fn more(s: Sums, len: u64) -> Sums
     ensures { λ r. ⌜ r ≡ moreOf 4096 s len ⌝ }
 {
+    if s.refused != 0 {
+        return s;
+    }
     let reads = chunk_reads(len);
     if u64::MAX - s.bytes < len {
         return refuse(27);
@@ -94,9 +98,6 @@ fn more(s: Sums, len: u64) -> Sums
 fn add(s: Sums, e: RamdumpTable64, names: &[u8]) -> Sums
     ensures { λ r. ⌜ r ≡ addOf 4096 (now (names .entry)) s e ⌝ }
 {
-    if s.refused != 0 {
-        return s;
-    }
     if !selects(names, e) {
         return s;
     }
@@ -126,18 +127,18 @@ pub fn forecast(entries: &[RamdumpTable64], names: &[u8]) -> Foreseen
     finish(s)
 }
 
-// Of the entries of a table.
+// Of the entries of a table: the selected ones are searched for as a step does it.
 pub fn forecast_table(table: &[u8], width: Width, names: &[u8]) -> Foreseen
     ensures { λ r. ⌜ Tells forecastTold r (forecastOf 4096 (entriesOf (fieldSize width) (now (table .entry))) (now (names .entry))) ⌝ }
 {
     let mut s = start(names);
     let n = entries_in(width, table.len());
-    let mut i: usize = 0;
+    let mut i = next_selected(table, width, n, names, 0);
     while i < n {
         let found = entry_at(table, width, i);
         let e = found.entry;
-        s = add(s, e, names);
-        i += 1;
+        s = more(s, e.len);
+        i = next_selected(table, width, n, names, i + 1);
     }
     finish(s)
 }

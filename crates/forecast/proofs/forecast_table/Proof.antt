@@ -1,27 +1,29 @@
--- `forecast::forecast_table` meets its contract. The loop's invariant: the sums so far, with the entries from i on, come to the sums of them all. Assumes nothing.
-use mathlib.Core.Path.{_≡_, refl, sym, ap, _∙_}
+-- `forecast::forecast_table` meets its contract. The loop's invariant: i is the next selected entry, and the sums so far, with the entries from i on, come to the
+-- sums of them all. Assumes nothing.
+use mathlib.Core.Path.{_≡_, sym, ap, _∙_}
 use mathlib.Core.List.{List}
-use Prim.Native.Nat.{ℕ, suc, _+_, _-_, _≤_}
+use Prim.Native.Nat.{ℕ, _+_, _-_}
 use native.Mathlib.Omega.{arith}
-use native.Mathlib.Nat.{sub-zero}
 use denote.Ref.{now}
 use lib.ListN.{length}
 use Rattle.field.specs.Field.{fieldSize}
 use Rattle.entry.specs.Entry.{entriesIn, entryIn, entriesFrom, entriesOf}
 use Rattle.entry.specs.declared.EntryAt.{EntryAt}
+use Rattle.entry.specs.declared.RamdumpTable64.{RamdumpTable64}
 use Rattle.entry.proofs.Laws.{entry-found, length-entries}
+use Rattle.selection.proofs.Laws.{next-from, next-selected}
 use Rattle.base.proofs.Telling.{tells}
 use Rattle.forecast.specs.Forecast.{forecastTold}
-use Rattle.forecast.specs.Sums.{startOf, addOf, addAll, foreseenOf}
+use Rattle.forecast.specs.Sums.{startOf, moreOf, addAll, foreseenOf}
 use Rattle.forecast.specs.declared.Sums.{Sums}
-use Rattle.forecast.proofs.Laws.{from-here, none-more, sums-are}
+use Rattle.forecast.proofs.Laws.{Searched, begins, goes-on, finished, sums-are}
 use borrow.Author.Needs.{needs}
 use Rattle.forecast.proofs.forecast_table.Statement.{statement}
 use Rattle.forecast.proofs.forecast_table.Tie as tie
 
 abbrev Inv-loop : tie.InvT-loop
 Inv-loop table width names s₀ n i₀ s i =
-    (i ≤ n) × (addAll 4096 names s (entriesFrom (fieldSize width) table (n - i) i) ≡ addAll 4096 names s₀ (entriesFrom (fieldSize width) table n 0))
+    Searched 4096 names (fieldSize width) table n i s (addAll 4096 names s₀ (entriesFrom (fieldSize width) table n 0))
 
 abbrev μ-loop : tie.MeasureT-loop
 μ-loop table width names s₀ n i₀ s i = n - i
@@ -32,39 +34,50 @@ start-requires c κs = search needs
 entries-in-requires : tie.Need-entries-in-requires Inv-loop μ-loop
 entries-in-requires c κs = search needs
 
+next-selected-requires : tie.Need-next-selected-requires Inv-loop μ-loop
+next-selected-requires c κs = search needs
+
 loop-holds : tie.Need-loop-holds Inv-loop μ-loop
-loop-holds c = (omega arith, rw sub-zero refl)
+loop-holds c =
+    let w = c .before in
+    let a = w .before .before .before .before .args in
+    begins 4096 (now (a .names)) (fieldSize (a .width)) (now (a .table)) (w .entries-in .result) (c .next-selected .result) (w .before .start .result)
+    (omega (arith, w .entries-in .ensures)) (c .next-selected .ensures)
 
 entry-at-requires : tie.Need-entry-at-requires Inv-loop μ-loop
 entry-at-requires c κs = search needs
 
-add-requires : tie.Need-add-requires Inv-loop μ-loop
-add-requires c κs = search needs
+more-requires : tie.Need-more-requires Inv-loop μ-loop
+more-requires c κs = search needs
 
-add-i : tie.Need-add-i Inv-loop μ-loop
-add-i c = omega arith
+add-next-selected : tie.Need-add-next-selected Inv-loop μ-loop
+add-next-selected c = omega arith
+
+next-selected-requires-2 : tie.Need-next-selected-requires-2 Inv-loop μ-loop
+next-selected-requires-2 c κs = search needs
 
 loop-less : tie.Need-loop-less Inv-loop μ-loop
-loop-less c = omega arith
+loop-less c =
+    let l = c .before .before .before .before .before .loop in
+    let w = c .before .before .before .before .before .before .before in
+    let a = w .before .before .before .before .args in
+    let n : ℕ = w .entries-in .result in
+    omega (arith, c .next-selected2 .ensures, next-from (fieldSize (a .width)) (now (a .names)) (now (a .table)) (n - (l .i + 1)) (l .i + 1))
 
 loop-again : tie.Need-loop-again Inv-loop μ-loop
 loop-again c =
-    let e = c .before .before in
+    let m = c .before in
+    let e = m .before .before in
     let l = e .before .before .loop in
-    let w = e .before .before .before in
+    let w = e .before .before .before .before in
     let a = w .before .before .before .before .args in
     let f : ℕ = fieldSize (a .width) in
     let t : List ℕ = now (a .table) in
     let n : ℕ = w .entries-in .result in
     let q : e .entry-at .result .entry ≡ entryIn f t (l .i) =
-    ap (λ (x : EntryAt). x .entry) (e .entry-at .ensures) ∙ entry-found f t (l .i) (omega arith) in
-    let k : n - l .i ≡ suc (n - (l .i + 1)) = omega arith in (
-      omega arith,
-      ap (λ (x : Sums). addAll 4096 (now (a .names)) x (entriesFrom f t (n - (l .i + 1)) (l .i + 1))) (c .add .ensures ∙ ap (addOf 4096 (now (a .names)) (l .s)) q)
-          ∙ from-here 4096 (now (a .names)) f t (n - (l .i + 1)) (l .i) (l .s)
-          ∙ ap (λ (j : ℕ). addAll 4096 (now (a .names)) (l .s) (entriesFrom f t j (l .i))) (sym k)
-          ∙ l .inv .1,
-    )
+    ap (λ (x : EntryAt). x .entry) (e .entry-at .ensures) ∙ entry-found f t (l .i) (omega (arith, w .entries-in .ensures)) in
+    goes-on 4096 (now (a .names)) f t n (l .i) (c .next-selected2 .result) (l .s) (m .more .result) _ (omega (arith, w .entries-in .ensures)) (omega arith)
+    (l .inv) (m .more .ensures ∙ ap (λ (x : RamdumpTable64). moreOf 4096 (l .s) (x .len)) q) (c .next-selected2 .ensures)
 
 finish-requires : tie.Need-finish-requires Inv-loop μ-loop
 finish-requires c κs = search needs
@@ -72,15 +85,14 @@ finish-requires c κs = search needs
 returns : tie.Need-returns Inv-loop μ-loop
 returns c =
     let l = c .before .before .loop in
-    let w = c .before .before .before in
+    let w = c .before .before .before .before in
     let a = w .before .before .before .before .args in
     let f : ℕ = fieldSize (a .width) in
     let t : List ℕ = now (a .table) in
     let names : List ℕ = now (a .names) in
     let n : w .entries-in .result ≡ entriesIn f (length t) = w .entries-in .ensures in
-    let k : w .entries-in .result - l .i ≡ 0 = omega arith in
     let whole : l .s ≡ addAll 4096 names (startOf names) (entriesOf f t) =
-    sym (none-more 4096 names f t (l .i) (l .s)) ∙ ap (λ (j : ℕ). addAll 4096 names (l .s) (entriesFrom f t j (l .i))) (sym k) ∙ l .inv .1
+    sym (finished 4096 names f t (w .entries-in .result) (l .i) (l .s) (omega arith)) ∙ l .inv .same
     ∙ ap (λ (x : Sums). addAll 4096 names x (entriesFrom f t (w .entries-in .result) 0)) (w .before .start .ensures)
     ∙ ap (λ (j : ℕ). addAll 4096 names (startOf names) (entriesFrom f t j 0)) n in
     tells forecastTold
@@ -95,10 +107,12 @@ forecast-table-spec =
     μ-loop
     start-requires
     entries-in-requires
+    next-selected-requires
     loop-holds
     entry-at-requires
-    add-requires
-    add-i
+    more-requires
+    add-next-selected
+    next-selected-requires-2
     loop-less
     loop-again
     finish-requires

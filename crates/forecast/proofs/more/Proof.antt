@@ -2,37 +2,42 @@
 use mathlib.Core.Path.{refl, _∙_}
 use Prim.Native.Nat.{_+_, _-_, _^_}
 use native.Mathlib.Omega.{arith}
-use borrow.Author.Tests.{lt-ltb, le-ltb}
+use borrow.Author.Tests.{ne-eqb, lt-ltb, le-ltb}
 use borrow.Author.Needs.{needs}
 use Rattle.forecast.proofs.more.Statement.{statement}
 use Rattle.forecast.proofs.more.Tie as tie
 
+returns : tie.Need-returns
+returns c = simp (ne-eqb _ _ (c .if1 .taken))
+
 chunk-reads-requires : tie.Need-chunk-reads-requires
 chunk-reads-requires c κs = search needs
-
-sub-if1 : tie.Need-sub-if1
-sub-if1 c = search needs
-
-refuse-requires : tie.Need-refuse-requires
-refuse-requires c κs = search needs
-
-returns : tie.Need-returns
-returns c =
-    let a = c .before .before .before .before .args in
-    c .refuse .ensures ∙ rw (lt-ltb (2 ^ 64 - 1) (a .s .bytes + a .len) (omega arith)) refl
 
 sub-if2 : tie.Need-sub-if2
 sub-if2 c = search needs
 
-refuse-requires-2 : tie.Need-refuse-requires-2
-refuse-requires-2 c κs = search needs
+refuse-requires : tie.Need-refuse-requires
+refuse-requires c κs = search needs
 
 returns-2 : tie.Need-returns-2
 returns-2 c =
+    let r = c .before .before .before in
+    let a = r .before .before .before .args in
+    c .refuse .ensures ∙ rw (r .before .if1 .left, lt-ltb (2 ^ 64 - 1) (a .s .bytes + a .len) (omega arith)) refl
+
+sub-if3 : tie.Need-sub-if3
+sub-if3 c = search needs
+
+refuse-requires-2 : tie.Need-refuse-requires-2
+refuse-requires-2 c κs = search needs
+
+returns-3 : tie.Need-returns-3
+returns-3 c =
     let r = c .before .before .before .before .before in
-    let a = r .before .args in
+    let a = r .before .before .before .args in
     c .refuse2 .ensures
     ∙ rw (
+      r .before .if1 .left,
       le-ltb (2 ^ 64 - 1) (a .s .bytes + a .len) (omega arith),
       ← r .chunk-reads .ensures,
       lt-ltb (2 ^ 64 - 1) (a .s .reads + r .chunk-reads .result) (omega arith),
@@ -48,11 +53,12 @@ add-t6 c = search needs
 add-t7 : tie.Need-add-t7
 add-t7 c = search needs
 
-returns-3 : tie.Need-returns-3
-returns-3 c =
+returns-4 : tie.Need-returns-4
+returns-4 c =
     let r = c .before .before .before .before .before .before .before in
-    let a = r .before .args in
+    let a = r .before .before .before .args in
     rw (
+      r .before .if1 .left,
       le-ltb (2 ^ 64 - 1) (a .s .bytes + a .len) (omega arith),
       ← r .chunk-reads .ensures,
       le-ltb (2 ^ 64 - 1) (a .s .reads + r .chunk-reads .result) (omega arith),
@@ -63,14 +69,15 @@ pub more-spec : {M : Type 1} → statement M
 more-spec =
     tie.close
     (tie.spec
-    chunk-reads-requires
-    sub-if1
-    refuse-requires
     returns
+    chunk-reads-requires
     sub-if2
-    refuse-requires-2
+    refuse-requires
     returns-2
+    sub-if3
+    refuse-requires-2
+    returns-3
     wrapping-add-u64-requires
     add-t6
     add-t7
-    returns-3)
+    returns-4)
