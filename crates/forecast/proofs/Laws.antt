@@ -187,10 +187,11 @@ module _ (c : ℕ) (names : List ℕ) where
         addAll c names (moreOf c s (entryIn f t i .len)) (entriesFrom f t (n - j) j) ≡ addAll c names s (entriesFrom f t (n - i) i))
     taken n i s h l e =
         let j : ℕ = nextOf f names t (n - suc i) (suc i) in
+        let z : Sums = moreOf c s (entryIn f t i .len) in
         let k : n - i ≡ suc (n - suc i) = omega arith in
         let m : suc i + (n - suc i) ≡ n = omega arith in
         rw (add-one i, k)
-        (sym (passed (n - suc i) (suc i) (moreOf c s (entryIn f t i .len)) (omega arith) ∙ ap (λ (x : ℕ). addAll c names (moreOf c s (entryIn f t i .len)) (entriesFrom f t (x - j) j)) m)
+        (sym (passed (n - suc i) (suc i) z (omega arith) ∙ ap (λ (x : ℕ). addAll c names z (entriesFrom f t (x - j) j)) m)
         ∙ one-taken (n - suc i) i s (sym (selected-alike i (omega arith)) ∙ e))
 
     -- behind the last
@@ -219,10 +220,10 @@ module _ (c : ℕ) (names : List ℕ) where
     pub goes-on : (n i j : ℕ) (s z whole : Sums) → n ≤ entriesIn f (length t) → i < n → Searched n i s whole
         → z ≡ moreOf c s (entryIn f t i .len) → j ≡ nextOf f names t (n - (i + 1)) (i + 1) → Searched n j z whole
     goes-on n i j s z whole h l g e k =
+        let p : ℕ = nextOf f names t (n - (i + 1)) (i + 1) in
         record {
           here = λ m. rw k (next-selected f names t (n - (i + 1)) (i + 1) (omega (arith, k, m)));
           same =
               subst (λ (x : ℕ). addAll c names z (entriesFrom f t (n - x) x) ≡ whole) (sym k)
-              (subst (λ (x : Sums). addAll c names x (entriesFrom f t (n - nextOf f names t (n - (i + 1)) (i + 1)) (nextOf f names t (n - (i + 1)) (i + 1))) ≡ whole) (sym e)
-              (taken n i s h l (g .here l) ∙ g .same));
+              (subst (λ (x : Sums). addAll c names x (entriesFrom f t (n - p) p) ≡ whole) (sym e) (taken n i s h l (g .here l) ∙ g .same));
         }
