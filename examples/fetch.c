@@ -6,7 +6,8 @@
  * speed stays as it is. Each selected region goes to a file of its own in FOLDER, which is made if need be: to FILE.part while its bytes come, and under
  * its final name only when it is whole and on the disk. A NAME is a filename up to its first '.', in any case ("ocimem"); with none, the device's
  * preference decides. Before the first region the device's list of all of them goes to standard output: filename, base, length, and '*' where the device
- * prefers the region; then how large the fetch will be. -m: where that is more than so many bytes, nothing is fetched (-m 0 shows what there is). -u: the
+ * prefers the region; then how large the fetch will be. -m: where that is more than so many bytes, none of them is fetched. This process ends then, and the
+ * device is left in its dump, where it says no second hello: a host that wants to ask for less goes on with its session instead, with other names. -u: the
  * device follows the rules of USB. -t: how long a silent device is waited for at a time, 5 times in a row. The exit status is 0 when every selected region is
  * whole, there was one, and all is as forecast; 2 for a wrong call, else 1; then what came of a region that is not whole is still there, as FILE.part. The
  * device is not reset.
@@ -217,8 +218,10 @@ static void forecast(const worgesli_lent *lent, size_t table_len, uint64_t width
     else
         fprintf(stderr, "fetch: no forecast: %s\n", worgesli_refusal_text(e.refused));
     fflush(stdout);
-    if (f.most < UINT64_MAX && (e.refused != 0 || e.bytes > f.most))
+    if (f.most < UINT64_MAX && (e.refused != 0 || e.bytes > f.most)) {
+        fputs("fetch: the device is left in its dump, and says no second hello there\n", stderr);
         stop("nothing was fetched", "there is more than -m allows");
+    }
     const uint64_t bytes = e.refused == 0 ? e.bytes : UINT64_MAX;
     struct statvfs s;
     if (fstatvfs(f.folder, &s) == 0 && s.f_frsize > 0 && bytes / s.f_frsize + (bytes % s.f_frsize != 0) > s.f_bavail)

@@ -302,7 +302,8 @@ worgesli_sheet worgesli_region_sheet(const uint8_t *table, size_t table_len, uin
  * region that a step would be refused for counts. A part of an entry behind the last whole one is none; of a number that is no width there is no entry.
  * Where nothing is refused here, a session from its opening on that finishes (3) opens just so many regions, hands out so many bytes and reports so many
  * memory reads, whatever its device says: if each step that is not refused is lent these names and the same table buffer, which nobody else writes, and this
- * is the table that came there. It is there when a step answers go and session.phase is WORGESLI_PHASE_BETWEEN: the first session.count bytes.
+ * is the table that came there. It is there when a step answers go and session.phase is WORGESLI_PHASE_BETWEEN: the first session.count bytes, of the width
+ * session.width.
  * Archives of number 2 from before this function do not have it: who uses dlopen looks. */
 worgesli_forecast worgesli_forecast_table(const uint8_t *table, size_t table_len, uint64_t width, const uint8_t *names, size_t names_len);
 

@@ -2,6 +2,7 @@
 //!
 //! What a step took or asked for is written down before anything that is not ours is called (channel, sink, progress), and crossed out
 //! behind it: after an error or a panic there, the next call goes on with what is still owed.
+use crate::saved::asked_len;
 use crate::session::{answer, OUT, TABLE};
 use crate::{
     entry_at, forecast, raw, Answer, Entry, Error, Forecast, ImageSet, NameList, Options, Phase, Refusal, Session, Sink, Unkept,
@@ -175,11 +176,15 @@ impl Driver {
         forecast(&self.table[from..self.table_len], width, &self.names)
     }
 
-    /// Other names choose the regions from the next step on: for who looks at the table first. A run that is saved is restored with these. The sink is told the
-    /// table and the [forecast](Sink::forecast) again before that step.
+    /// Other names choose the regions from the next step on: for who looks at the table first. A region that a sink has not opened yet, or lost, is chosen by
+    /// these again; one that is open goes on. A run that is saved is restored with these. The sink is told the table and the [forecast](Sink::forecast) again
+    /// before that step.
     pub fn set_names(&mut self, names: NameList) {
         self.names = names;
         self.told = false;
+        if let (Region::None, Owed::Open(place)) = (self.region, self.owed) {
+            (self.session, self.owed) = (self.session.before_region(place), Owed::Nothing);
+        }
     }
 
     /// Runs the session to its end, or to the first error; time-outs are borne as [`Options::timeouts`] says.
@@ -543,7 +548,8 @@ impl Driver {
         match self.session.phase() {
             Phase::Between => self.session.raw().reads <= self.doubt,
             Phase::Region => true,
-            Phase::Ended => !self.table_read.is_empty(),
+            // of a run that an earlier version closed in the middle of its table, the table is shorter than what was asked for
+            Phase::Ended => asked_len(&self.table_read, self.session.width()) == Some(self.table_len as u64),
             _ => false,
         }
     }
@@ -613,7 +619,7 @@ impl Driver {
         };
         match closed {
             Ok(true) => (self.region, self.owed) = (Region::None, Owed::Nothing),
-            Ok(false) => return self.fetch_again(place, sink),
+            Ok(false) => self.fetch_again(place),
             Err(Unkept::Again(e)) => return Err(Error::Sink(e)),
             Err(Unkept::Lost(e)) => {
                 // told now, and fetched again by the next call
@@ -624,13 +630,11 @@ impl Driver {
         Ok(())
     }
 
-    /// Back to where the region was opened. Its memory reads so far stay counted: they were sent.
+    /// Back to before the region was opened: by the same names it is chosen again. Its memory reads so far stay counted: they were sent.
     #[cold]
-    fn fetch_again<S: Sink + ?Sized>(&mut self, place: usize, sink: &mut S) -> Result<(), Error> {
-        let entry = self.entry(place);
-        self.session = self.session.region_begun(place, &entry).expect("the region was open in this session");
-        (self.region, self.owed) = (Region::None, Owed::Open(place));
-        self.open(sink, place)
+    fn fetch_again(&mut self, place: usize) {
+        self.session = self.session.before_region(place);
+        (self.region, self.owed) = (Region::None, Owed::Nothing);
     }
 
     /// Hands input[kept..from] to the sink: the last bytes that the session counts as done.
@@ -768,5 +772,49 @@ where
     match driver.run(channel, sink, progress) {
         Err(Error::NoBytes) => Err(driver.close(sink)?.into()),
         end => end,
+    }
+}
+
+#[cfg(test)]
+mod tests {
+    use super::*;
+    use crate::{Backend, Count, Mode};
+    use std::io::Cursor;
+
+    /// What it is told is gone; what it says ends, and nothing comes then.
+    struct Said(Cursor<Vec<u8>>);
+
+    impl Read for Said {
+        fn read(&mut self, to: &mut [u8]) -> io::Result<usize> {
+            self.0.read(to)
+        }
+    }
+
+    impl Write for Said {
+        fn write(&mut self, bytes: &[u8]) -> io::Result<usize> {
+            Ok(bytes.len())
+        }
+        fn flush(&mut self) -> io::Result<()> {
+            Ok(())
+        }
+    }
+
+    /// A run that version 0.3.0 closed while its table came kept the memory read: there is no forecast of a part of a table. Behind a whole one there is.
+    #[test]
+    fn closed_while_the_table_came() {
+        let options = Options::new(Backend::Serial, Mode::MemoryDebug);
+        for (came, forecast) in [(0, None), (70, None), (127, None), (128, Some(Forecast { regions: 2, bytes: 514, reads: 3 }))] {
+            let mut said: Vec<u8> = [0x10u32, 24].iter().flat_map(|w| w.to_le_bytes()).collect();
+            said.extend([0x1000u64, 128].iter().flat_map(|w| w.to_le_bytes()));
+            // two entries of 64 bytes: preference 1, base 0, a length of 257
+            said.extend((0..came).map(|i| u8::from(matches!(i % 64, 0 | 16 | 17))));
+            let mut run = options.start().unwrap();
+            run.run(&mut Said(Cursor::new(said)), &mut Count::default(), |_| ()).unwrap_err();
+            run.owed = Owed::Nothing;
+            run.table_len = run.table().len();
+            run.session.closed();
+            let run = options.restore(&run.save()).unwrap();
+            assert_eq!((run.table_len, run.forecast()), (came, Ok(forecast)));
+        }
     }
 }

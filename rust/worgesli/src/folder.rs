@@ -102,8 +102,9 @@ impl Folder {
     ///
     /// A fetch that does not fit is refused as soon as the table is there, before anything of a region is asked for: where what is written and the
     /// [forecast](Sink::forecast) of the regions still to be opened are more, or that is refused (27). The run goes on under a higher bound, or with fewer
-    /// [names](crate::Driver::set_names). A fetch of which every region would be taken one by one is not refused. `u64::MAX`, which it is unless this says
-    /// otherwise, is no bound: a table with one absurd length still gives the regions before it.
+    /// [names](crate::Driver::set_names). A fetch of which every region would be taken one by one is not refused. An entry that would end the
+    /// session (19 to 24) counts too. Of a region that an earlier process began only what is written counts, so such a run may be refused at its next region.
+    /// `u64::MAX`, which it is unless this says otherwise, is no bound: a table with one absurd length still gives the regions before it.
     pub fn limit(mut self, bytes: u64) -> Folder {
         self.set_limit(bytes);
         self

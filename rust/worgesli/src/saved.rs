@@ -275,13 +275,17 @@ fn sound(d: &Driver) -> bool {
 
 /// The table is as long as the session says, and was asked for with a memory read of its width and length.
 fn asked_for(d: &Driver) -> bool {
-    let len = match (parse_packet(&d.table_read).map(|p| p.body), d.session.width()) {
-        (Ok(Body::ReadMemReq { len, .. }), Width::Bits32) => len.into(),
-        (Ok(Body::ReadMem64Req { len, .. }), Width::Bits64) => len,
-        _ => return false,
-    };
     let count = d.session.raw().count;
-    d.table_len == count && len == count as u64
+    d.table_len == count && asked_len(&d.table_read, d.session.width()) == Some(count as u64)
+}
+
+/// The length that a memory read of this width asks for.
+pub(crate) fn asked_len(read: &[u8], width: Width) -> Option<u64> {
+    match (parse_packet(read).map(|p| p.body), width) {
+        (Ok(Body::ReadMemReq { len, .. }), Width::Bits32) => Some(len.into()),
+        (Ok(Body::ReadMem64Req { len, .. }), Width::Bits64) => Some(len),
+        _ => None,
+    }
 }
 
 /// The region at hand is the table's.

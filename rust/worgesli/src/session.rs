@@ -1,5 +1,5 @@
 //! A session: what the host keeps from step to step.
-use crate::{raw, Answer, Backend, Command, Entry, Mode, Phase, Refusal, Width};
+use crate::{raw, Answer, Backend, Command, Mode, Phase, Refusal, Width};
 use std::fmt;
 
 /// The least out buffer.
@@ -91,10 +91,10 @@ impl Session {
         (self.0.mode, self.0.command, self.0.backend) == (opened.mode, opened.command, opened.backend)
     }
 
-    /// The session behind a region's close, put back to where that region was opened. None where the numbers are no session's.
-    pub(crate) fn region_begun(&self, place: usize, entry: &Entry) -> Option<Session> {
-        let (phase, base, len) = (Phase::Region as u32, entry.base, entry.len);
-        Session::from_raw(raw::Session { phase, at: place, base, len, done: 0, outstanding: 0, due: 0, ..self.0 })
+    /// The session in a region or behind its close, put back to where it is to choose its next region, at this place of the table or behind it.
+    pub(crate) fn before_region(&self, place: usize) -> Session {
+        let phase = Phase::Between as u32;
+        Session(raw::Session { phase, at: place, base: 0, len: 0, done: 0, outstanding: 0, due: 0, ..self.0 })
     }
 
     /// A session in a region, with so many of its bytes done and none outstanding.

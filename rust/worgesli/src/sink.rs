@@ -8,14 +8,14 @@ use std::io::{self, ErrorKind};
 pub trait Sink {
     /// The memory table came whole: its bytes, and how wide the numbers in it are. Told before the first region is opened or goes on and, where none is
     /// chosen, before the end; where no table came, or not all of one, it is not. It may be told more than once: by a call that begins with no region open, whose
-    /// sink may be another, after an error or a panic, by another process that goes on with the run, or of another table, where a run that is older than the
-    /// table asked for it again. A sink that wraps another hands it on.
+    /// sink may be another, after an error or a panic, behind other names, by another process that goes on with the run, or of another table, where a run that is
+    /// older than the table asked for it again. A sink that wraps another hands it on.
     fn table(&mut self, _table: &[u8], _width: Width) -> io::Result<()> {
         Ok(())
     }
     /// How large the rest of the fetch is: the regions that the run is still to open, by the names as they stand, with their bytes and memory reads, the
     /// table's read among these. Before the first region that is all of it ([`Driver::forecast`](crate::Driver::forecast)); of a run that goes on, regions that
-    /// were closed are not in it, and not the one that is open. Refused (27): their bytes, or memory reads, are above 2^64 - 1.
+    /// were closed are not in it, and not the one that is open: what is left of that comes on top, and `reopen` tells how much it has. Refused (27): their bytes, or memory reads, are above 2^64 - 1.
     ///
     /// Told right behind [`table`](Sink::table), each time that is, but not by a run that is closed, which fetches nothing more; and so before a byte of a
     /// region is asked for: for a sink that reserves space, or has too little. An error stops the run as one of `table` does, and the next call tells both

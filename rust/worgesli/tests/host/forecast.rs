@@ -449,15 +449,21 @@ struct Ear<S> {
     have: BTreeSet<usize>,
     /// one close or reopen in so many loses its region; one open in so many fails
     loses: Option<(Rng, u64)>,
+    /// this call fails, once
+    fails: Option<Heard>,
 }
 
 impl<S> Ear<S> {
     fn new(to: S) -> Ear<S> {
         let (heard, wrong, have) = (Vec::new(), Vec::new(), BTreeSet::new());
-        Ear { to, heard, wrong, room: u64::MAX, takes: true, gathers: 0, have, loses: None }
+        Ear { to, heard, wrong, room: u64::MAX, takes: true, gathers: 0, have, loses: None, fails: None }
     }
 
     fn loses(&mut self) -> bool {
+        if self.fails.is_some() && self.heard.last() == self.fails.as_ref() {
+            self.fails = None;
+            return true;
+        }
         self.loses.as_mut().is_some_and(|(rng, n)| rng.below(*n) == 0)
     }
 
@@ -723,6 +729,39 @@ fn other_names() {
         in_region += u64::from(open);
     }
     assert!(in_region > 50, "{in_region}");
+}
+
+/// A region that the sink has not opened yet, or that it lost, is chosen by the names as they stand: what it is told is what it gets.
+#[test]
+fn other_names_behind_a_failed_open_or_a_loss() {
+    for width in device::Width::BOTH {
+        for lost in [false, true] {
+            // the names before choose A first; those behind choose it or not
+            for (list, places) in
+                [(&["b"][..], &[1][..]), (&["b", "c"], &[1, 2]), (&["A", "c"], &[0, 2]), (&["x"], &[]), (&[], &[0, 1, 2])]
+            {
+                let w = two_regions(width, Backend::Serial);
+                let (mut wire, mut sink) = (wire(&w, Division::Random, 1), Ear::new(Record::default()));
+                let mut run = w.options().start().unwrap();
+                sink.fails = Some(if lost { Heard::Close(0) } else { Heard::Open(0) });
+                run.run(&mut wire, &mut sink, |_| ()).unwrap_err();
+                assert_eq!(sink.fails, None);
+                (sink.heard, sink.to) = (vec![], Record::default());
+                run.set_names(names(list));
+                run.run(&mut wire, &mut sink, |_| ()).unwrap();
+                let came = sink.to.0;
+                let bytes = came.iter().map(|k| k.bytes.len() as u64).sum::<u64>();
+                let reads = 1 + came.iter().map(|k| k.bytes.len().div_ceil(4096) as u64).sum::<u64>();
+                assert_eq!(
+                    came,
+                    places.iter().map(|&p: &usize| w.kept()[p].clone()).collect::<Vec<_>>(),
+                    "{list:?}, lost: {lost}"
+                );
+                let told = Heard::Forecast(Ok(of(places.len() as u64, bytes, reads)));
+                assert_eq!(sink.heard[..2], [Heard::Table, told], "{list:?}, lost: {lost}");
+            }
+        }
+    }
 }
 
 /// A sink that has room for some: nothing is fetched until the names ask for no more than that; another sink is told too.

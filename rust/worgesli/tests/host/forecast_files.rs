@@ -131,6 +131,31 @@ fn another_process() {
     }
 }
 
+/// A run that goes on in a region, under a limit that its next region passes: that is refused when it is its turn, and fewer names go on without it.
+#[test]
+fn fewer_names_behind_a_refused_region() {
+    for width in Width::BOTH {
+        let w = two_regions(width, Backend::Serial);
+        let (t, mut wire) = (Temporary::in_memory(), wire(&w, 1));
+        let (mut run, mut sink) = (w.options().start().unwrap(), Folder::new(t.dump()).unwrap());
+        while run.session().phase() != Phase::Region || run.session().raw().done == 0 {
+            run.step(&mut wire, &mut sink, |_| ()).unwrap();
+        }
+        sink.checkpoint().unwrap();
+        let mut sink = Folder::resume(sink.manifest_path()).unwrap().limit(9000);
+        let mut run = w.options().restore(&run.save()).unwrap();
+        quota(run.run(&mut wire, &mut sink, |_| ()));
+        for _ in 0..2 {
+            // the limit holds A; B is chosen by these too, and C alone has no byte
+            run.set_names(NameList::new(&["b", "c"]).unwrap());
+            quota(run.run(&mut wire, &mut sink, |_| ()));
+        }
+        run.set_names(NameList::new(&["c"]).unwrap());
+        assert_eq!(run.run(&mut wire, &mut sink, |_| ()).unwrap(), Outcome::Dumped { reads: 4 });
+        assert_eq!(files(&t), [("A.BIN", 9000), ("C.BIN", 0)].map(|(n, l)| (n.to_owned(), l)));
+    }
+}
+
 /// The folder closed the region, and who saved the run before did not hear of it: it is not counted twice.
 #[test]
 fn closed_behind_the_last_save() {
