@@ -2,11 +2,12 @@
 //! is told of it and may refuse.
 use crate::guard::{Guarded, Side};
 use crate::resync::{bytes_of, two_regions, Pauses};
+use crate::told::Wrong;
 use crate::world::{host_width, world, worlds, Cut, Record, World};
 use device::{Device, Division, Memory, Region, Rng, Wire};
 use std::collections::BTreeSet;
 use std::io::{self, ErrorKind};
-use std::panic::{catch_unwind, resume_unwind, AssertUnwindSafe};
+use std::panic::{catch_unwind, AssertUnwindSafe};
 use worgesli::{
     forecast, raw, sahara_run, Backend, Command, Count, Driver, Entry, Error, Forecast, Mode, NameList, Options, Outcome, Phase,
     Refusal, Sink, Unkept, Width,
@@ -415,25 +416,6 @@ enum Heard {
     Open(usize),
     Reopen(usize),
     Close(usize),
-}
-
-/// How a call goes wrong.
-#[derive(Clone, Copy, Debug, PartialEq)]
-enum Wrong {
-    Full,
-    Interrupted,
-    Panic,
-}
-
-impl Wrong {
-    fn come(self) -> io::Error {
-        match self {
-            Wrong::Full => ErrorKind::StorageFull.into(),
-            Wrong::Interrupted => ErrorKind::Interrupted.into(),
-            // no message: it is expected
-            Wrong::Panic => resume_unwind(Box::new("panic")),
-        }
-    }
 }
 
 /// Writes down what it is told. Calls of `forecast` go wrong first, the last of these first, and where there are more bytes than it has room for.

@@ -15,8 +15,8 @@ enum Heard {
 }
 
 /// How a call goes wrong.
-#[derive(Clone, Copy)]
-enum Wrong {
+#[derive(Clone, Copy, Debug, PartialEq)]
+pub enum Wrong {
     Full,
     Interrupted,
     Reset,
@@ -24,7 +24,7 @@ enum Wrong {
 }
 
 impl Wrong {
-    fn come(self) -> io::Error {
+    pub fn come(self) -> io::Error {
         match self {
             Wrong::Full => ErrorKind::StorageFull.into(),
             Wrong::Interrupted => ErrorKind::Interrupted.into(),
