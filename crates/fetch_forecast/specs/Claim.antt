@@ -50,7 +50,7 @@ isByte (finished how r) = false
 -- ---- "its table decoded to this list"
 
 -- a session has its table from its last byte until the session ends: the first k bytes of the table buffer b, as many as the memory debug told. f is the width of
--- an entry's numbers. (One that has ended tells no length of its table any more: the list is decoded before, and the buffer stays as it is)
+-- an entry's numbers. (One that has ended tells no length of its table any more. Its buffer is as it was, whatever steps came: `buffer-stays` of proofs/Buffer)
 abbrev pub decodesIn : ℕ → Phase → List ℕ → List RamdumpTable64 → Type 0
 decodesIn f (P.Packet h) b es = ⊥
 decodesIn f (P.Response x) b es = ⊥
