@@ -15,7 +15,8 @@ pub trait Sink {
     }
     /// How large the rest of the fetch is: the regions that the run is still to open, by the names as they stand, with their bytes and memory reads, the
     /// table's read among these. Before the first region that is all of it ([`Driver::forecast`](crate::Driver::forecast)); of a run that goes on, regions that
-    /// were closed are not in it, and not the one that is open: what is left of that comes on top, and `reopen` tells how much it has. Refused (27): their bytes, or memory reads, are above 2^64 - 1.
+    /// were closed are not in it, and not the one that is open: what is left of that comes on top, and `reopen` tells how much of it there is. Refused (27): their
+    /// bytes, or memory reads, are above 2^64 - 1.
     ///
     /// Told right behind [`table`](Sink::table), each time that is, but not by a run that is closed, which fetches nothing more; and so before a byte of a
     /// region is asked for: for a sink that reserves space, or has too little. An error stops the run as one of `table` does, and the next call tells both
