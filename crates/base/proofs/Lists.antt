@@ -12,6 +12,10 @@ pub sets-append : (xs ys d : List ℕ) (at : ℕ) → sets d at (xs ++ ys) ≡ s
 sets-append [] ys d at = rw add-zero refl
 sets-append (x ∷ xs) ys d at = rw (add-suc, ← suc-add) (sets-append xs ys (set d at x) (suc at))
 
+-- the second from where the first ends
+pub sets-behind : (xs ys d : List ℕ) (at b : ℕ) → at + length xs ≡ b → sets d at (xs ++ ys) ≡ sets (sets d at xs) b ys
+sets-behind xs ys d at b e = sets-append xs ys d at ∙ rw e refl
+
 -- a store of a run of n, and one more
 pub sets-more : (xs : List ℕ) (y : ℕ) (d : List ℕ) (at n : ℕ) → length xs ≡ n → sets d at (xs ++ y ∷ []) ≡ set (sets d at xs) (at + n) y
 sets-more xs y d at n e = sets-append xs (y ∷ []) d at ∙ rw e refl
@@ -26,9 +30,9 @@ set-sets [] d at i v h = refl
 set-sets (x ∷ xs) d at i v h =
     set-sets xs (set d at x) (suc at) i v (omega arith) ∙ ap (λ (l : List ℕ). sets l (suc at) xs) (set-comm d at i x v (λ e. omega arith))
 
--- a store at the front is the run, then what stood behind it
-pub sets-front : (xs d : List ℕ) → length xs ≤ length d → sets d 0 xs ≡ xs ++ drop (length xs) d
-sets-front xs d h = rw (sets-eq xs d 0 (rw zero-add h), zero-add) refl
+-- a run of k stored at the front is the run, then what stood behind it
+pub sets-front : (xs d : List ℕ) (k : ℕ) → length xs ≡ k → k ≤ length d → sets d 0 xs ≡ xs ++ drop k d
+sets-front xs d k e h = rw (← e) (sets-eq xs d 0 (rw zero-add (omega arith)) ∙ rw zero-add refl)
 
 -- a part of a list's first n is that part of the list
 pub part-of-first : {A : Type 0} (o l n : ℕ) (xs : List A) → o + l ≤ n → take l (drop o (take n xs)) ≡ take l (drop o xs)

@@ -1,6 +1,6 @@
 -- Laws of the packets that are built: their sizes, the front of the out buffer, the two outcomes of a build. Assumes nothing.
 use mathlib.Core.Path.{_≡_, refl, sym, ap, _∙_}
-use mathlib.Core.List.{List, _++_}
+use mathlib.Core.List.{List}
 use Prim.Native.Nat.{ℕ, _%_, _^_, _<_, _≤_}
 use native.Mathlib.Omega.{arith}
 use borrow.Author.Tests.{lt-ltb, le-ltb}
@@ -9,10 +9,10 @@ use lib.Seq.{sets, take-at, drop-at}
 use Rattle.base.specs.Told.{Tells}
 use Rattle.base.proofs.Lists.{sets-front}
 use Rattle.base.proofs.Telling.{tells}
-use Rattle.field.specs.Field.{leBytes}
+use Rattle.field.specs.Field.{leBytes, fields}
 use Rattle.field.proofs.Laws.{leBytes-mod}
 use Rattle.field.specs.declared.Width.the-variants as WI
-use Rattle.build.specs.Build.{fields, bytesOf, sizeOf, front, buildOutcome, buildTold, buildOf}
+use Rattle.build.specs.Build.{bytesOf, sizeOf, front, buildOutcome, buildTold, buildOf}
 use Rattle.build.specs.declared.Request.{Request}
 use Rattle.build.specs.declared.Request.the-variants as Q
 use Rattle.build.specs.declared.Built.the-variants as T
@@ -54,7 +54,7 @@ length-front q o h = simp (length-append, length-drop, length-bytes q) (omega ar
 
 -- a packet stored at 0 is the front
 pub stored-front : (q : Request) (o : List ℕ) → sizeOf q ≤ length o → sets o 0 (bytesOf q) ≡ front q o
-stored-front q o h = sets-front (bytesOf q) o (rw length-bytes h) ∙ ap (λ (k : ℕ). bytesOf q ++ drop k o) (length-bytes q)
+stored-front q o = sets-front (bytesOf q) o (sizeOf q) (length-bytes q)
 
 -- refused below 48 bytes, else built
 pub build-short : (q : Request) (o : List ℕ) → length o < 48 → buildOf q o ≡ buildOutcome (T.Refused 3) o

@@ -1,44 +1,26 @@
 -- The fields of what was built, read back: a packet is a row of words and, of a memory read, a row of numbers of its width; a field of a row is found at its
 -- place.
 -- Assumes nothing.
-use mathlib.Core.Path.{_≡_, refl, sym, ap, _∙_}
-use mathlib.Core.List.{List, [], _∷_, _++_, append-assoc, append-nil}
+use mathlib.Core.Path.{_≡_, refl, ap, _∙_}
+use mathlib.Core.List.{List, [], _∷_, _++_, append-nil}
 use Prim.Native.Nat.{ℕ, zero, suc, _+_, _*_, _^_, _<_}
 use native.Mathlib.Omega.{arith}
-use native.Mathlib.Nat.{mul-zero, mul-one, mul-suc, add-comm}
+use native.Mathlib.Nat.{mul-zero, mul-one}
 use lib.Dec.{T, ltb, ltb→lt}
-use lib.ListN.{length, drop, getD, length-append}
+use lib.ListN.{length, drop, getD}
 use lib.Seq.{drop-append-add}
 use Rattle.base.proofs.Ranges.{both-left, both-right}
-use Rattle.field.specs.Field.{le, leBytes, fieldSize}
+use Rattle.field.specs.Field.{le, leBytes, fieldSize, fields, words}
 use Rattle.field.specs.declared.Width.{Width}
 use Rattle.field.specs.declared.Width.the-variants as WI
-use Rattle.field.proofs.Laws.{le-of-bytes, length-leBytes}
+use Rattle.field.proofs.Laws.{length-fields, field-back}
 use Rattle.command.specs.Command.{modeNumber, commandNumber, kindNumber}
 use Rattle.command.specs.declared.SaharaMode.the-variants as M
 use Rattle.command.specs.declared.SaharaCmdModeCmd.the-variants as E
 use Rattle.command.proofs.Laws.{below}
-use Rattle.build.specs.Build.{fields, words, readKind, bytesOf, sizeOf}
+use Rattle.build.specs.Build.{readKind, bytesOf, sizeOf}
 use Rattle.build.specs.declared.Request.{Request}
 use Rattle.build.specs.declared.Request.the-variants as Q
-
--- a row's length
-length-fields : (w : ℕ) (vs : List ℕ) → length (fields w vs) ≡ w * length vs
-unfolding fields
-length-fields w [] = sym (mul-zero w)
-length-fields w (v ∷ vs) = rw (length-append, length-leBytes w v, length-fields w vs, mul-suc w (length vs)) (add-comm w (w * length vs))
-
--- behind one field stands what follows it
-drop-field : (w v n : ℕ) (s : List ℕ) → drop (w + n) (leBytes w v ++ s) ≡ drop n s
-drop-field w v n s = ap (λ (k : ℕ). drop (k + n) (leBytes w v ++ s)) (sym (length-leBytes w v)) ∙ drop-append-add (leBytes w v) s n
-
--- field i of a row of fields of w bytes is read back, whatever stands behind the row
-pub field-back : (w i : ℕ) (vs rest : List ℕ) → i < length vs → getD vs i 0 < 256 ^ w → le w (drop (w * i) (fields w vs ++ rest)) ≡ getD vs i 0
-unfolding fields
-field-back w i [] rest h b = absurd (omega arith)
-field-back w zero (v ∷ vs) rest h b = rw (mul-zero w, append-assoc) (le-of-bytes w v _ b)
-field-back w (suc i) (v ∷ vs) rest h b =
-    rw (mul-suc w i, add-comm (w * i) w, append-assoc, drop-field w v (w * i) (fields w vs ++ rest)) (field-back w i vs rest (omega arith) b)
 
 -- each of a list whose numbers are below b is below b
 each-below : (b : ℕ) (vs : List ℕ) (i : ℕ) → T (below b vs) → i < length vs → getD vs i 0 < b

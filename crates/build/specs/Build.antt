@@ -7,7 +7,7 @@ use lib.Dec.{ltb}
 use lib.ListN.{length, drop}
 use Rattle.base.specs.Choice.{pick}
 use Rattle.base.specs.Told.{Told, toldSend, toldRefused}
-use Rattle.field.specs.Field.{leBytes, fieldSize}
+use Rattle.field.specs.Field.{fields, words, fieldSize}
 use Rattle.field.specs.declared.Width.{Width}
 use Rattle.field.specs.declared.Width.the-variants as WI
 use Rattle.command.specs.Command.{modeNumber, commandNumber, kindNumber}
@@ -18,14 +18,6 @@ use Rattle.build.specs.declared.Request.{Request}
 use Rattle.build.specs.declared.Request.the-variants as Q
 use Rattle.build.specs.declared.Built.{Built}
 use Rattle.build.specs.declared.Built.the-variants as T
-
--- fields of w bytes one after the other; words of 4 bytes
-unfoldable pub fields : ℕ → List ℕ → List ℕ
-fields w [] = []
-fields w (v ∷ vs) = leBytes w v ++ fields w vs
-
-abbrev pub words : List ℕ → List ℕ
-words = fields 4
 
 -- a packet: its command, its whole length, its body
 abbrev pub packetBytes : ℕ → List ℕ → List ℕ

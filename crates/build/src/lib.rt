@@ -13,9 +13,9 @@ ghost use mathlib.Core.List.{[], _∷_};
 ghost use Prim.Native.Nat.{_+_, _≤_};
 ghost use lib.ListN.{length};
 ghost use lib.Seq.{sets};
-ghost use Rattle.field.specs.Field.{leBytes};
+ghost use Rattle.field.specs.Field.{leBytes, words};
 ghost use Rattle.base.specs.Told.{Tells};
-ghost use Rattle.build.specs.Build.{readSize, buildOf, buildOutcome, buildTold, words};
+ghost use Rattle.build.specs.Build.{readSize, buildOf, buildOutcome, buildTold};
 
 // What is to be sent.
 pub enum Request {

@@ -6,7 +6,7 @@ use Prim.Native.Nat.{ℕ, zero, suc, _+_, _-_, _*_, _<_, _≤_}
 use native.Mathlib.Omega.{arith}
 use native.Mathlib.Nat.{add-zero, zero-add}
 use native.Mathlib.Numerals.{add-one}
-use borrow.Author.Tests.{ltb-false, leb-true, eqb-true, le-ltb, le-leb, lt-leb}
+use borrow.Author.Tests.{ltb-false, leb-true, eqb-true, le-ltb, le-leb, lt-leb, eq-eqb}
 use lib.Dec.{ltb, leb, eqb}
 use lib.ListN.{length}
 use Rattle.base.specs.Choice.{pick}
@@ -75,6 +75,20 @@ formed gaps b h =
       exact = eqb-true _ _ (t .0);
       each = λ i l. rw zero-add at (slots-each gaps b (countOf b) 0 i (t .1) l);
     }
+
+-- k slots from i on that are good one by one are good
+slots-all : (gaps : Bool) (b : List ℕ) (k i : ℕ) → ((j : ℕ) → i ≤ j → j < i + k → slotGood gaps b j ≡ true) → slotsGood gaps b k i ≡ true
+unfolding slotsGood
+slots-all gaps b zero i h = refl
+slots-all gaps b (suc k) i h = simp (h i (omega arith) (omega arith)) (slots-all gaps b k (suc i) (λ j l m. h j (omega arith) (omega arith)))
+
+-- what is made of these is well-formed
+pub is-formed : (gaps : Bool) (b : List ℕ) → Formed gaps b → wellFormed gaps b ≡ true
+unfolding wellFormed
+is-formed gaps b f =
+    simp
+    (le-ltb _ _ (f .header), le-ltb _ _ (f .few), eq-eqb _ _ (f .exact))
+    (slots-all gaps b (countOf b) 0 (λ j l m. f .each j (omega arith)))
 
 -- a present slot of a well-formed bundle lies within its bytes
 pub slot-fits : (gaps : Bool) (b : List ℕ) (i : ℕ) → wellFormed gaps b ≡ true → i < countOf b → absent b i ≡ false

@@ -1,11 +1,12 @@
 -- Laws of copies: what is copied where it fits, what where it does not, and that the length is kept. Assumes nothing.
-use mathlib.Core.Path.{_≡_, refl, ap, _∙_}
+use mathlib.Core.Path.{_≡_, refl, sym, ap, _∙_}
 use mathlib.Core.Logic.{⊎-elim}
-use mathlib.Core.List.{List}
+use mathlib.Core.List.{List, _++_}
 use Prim.Native.Nat.{ℕ, _+_, _<_, _≤_}
+use native.Mathlib.Omega.{arith}
 use borrow.Author.Tests.{lt-ltb, le-ltb}
-use lib.ListN.{length}
-use lib.Seq.{paste, length-paste}
+use lib.ListN.{length, take, drop}
+use lib.Seq.{sets, sets-eq, paste, length-paste, take-all}
 use Rattle.base.proofs.Ranges.{below-or-not}
 use Rattle.copy.specs.Copy.{copied}
 
@@ -14,6 +15,13 @@ module _ (d : List ℕ) (at : ℕ) (s : List ℕ) (n : ℕ) where
   pub copied-fits : at + n ≤ length d → n ≤ length s → copied d at s n ≡ paste d at s n
   unfolding copied
   copied-fits f g = rw (le-ltb (length d) (at + n) f, le-ltb (length s) n g) refl
+
+  -- all n bytes of s are stored
+  pub copied-stored : at + n ≤ length d → length s ≡ n → copied d at s n ≡ sets d at s
+  copied-stored f e =
+      copied-fits f (omega arith)
+      ∙ rw (take-all n s (omega arith)) (ap (λ (k : ℕ). take at d ++ s ++ drop (at + k) d) (sym e))
+      ∙ sym (sets-eq s d at (omega arith))
 
   -- where they do not fit, nothing changes
   pub copied-beyond : length d < at + n → copied d at s n ≡ d

@@ -1,10 +1,10 @@
 -- Every example of the table holds: by computation, the definitions opened. Assumes nothing.
 use mathlib.Core.List.{_++_}
 use lib.Dec.{T}
-use Rattle.field.specs.Field.{le, leBytes}
+use Rattle.field.specs.Field.{le, leBytes, fields}
 use Rattle.command.specs.Command.{modeOf, kinds, unimplemented, classOf}
 use Rattle.packet.specs.Packet.{kindOf, decodeOf}
-use Rattle.build.specs.Build.{fields, bytesOf}
+use Rattle.build.specs.Build.{bytesOf}
 use Rattle.bundle.specs.Bundle.{slotsGood, wellFormed, slotOf}
 use Rattle.image.specs.Image.{rangeOf}
 use Rattle.utf8.specs.Utf8.{table as rows3-7, leads, afterFirst, goesOn}

@@ -5,12 +5,12 @@ use mathlib.Core.Bool.{Bool, true, false}
 use mathlib.Core.List.{List, [], _∷_, _++_}
 use lib.ListN.{length, replicate, take}
 use Rattle.base.specs.Choice.{pick}
-use Rattle.field.specs.Field.{leBytes, fieldSize}
+use Rattle.field.specs.Field.{leBytes, fieldSize, fields}
 use Rattle.field.specs.declared.Width.{Width}
 use Rattle.field.specs.declared.Width.the-variants as WI
 use Rattle.command.specs.declared.SaharaMode.{SaharaMode}
 use Rattle.command.specs.declared.SaharaMode.the-variants as M
-use Rattle.build.specs.Build.{fields, bytesOf}
+use Rattle.build.specs.Build.{bytesOf}
 use Rattle.build.specs.declared.Request.the-variants as Q
 use Rattle.packet.specs.Packet.{lengthChecked}
 use Rattle.packet.specs.declared.LengthCheck.{LengthCheck}

@@ -8,12 +8,12 @@ use native.Mathlib.Omega.{arith}
 use native.Mathlib.Nat.{add-zero, suc-add, add-suc, sub-zero, suc-sub-suc}
 use lib.ListN.{length, take, drop, length-take}
 use lib.Seq.{take-take}
-use Rattle.field.specs.Field.{le, leBytes, fieldSize}
+use Rattle.field.specs.Field.{le, leBytes, fieldSize, fields}
 use Rattle.field.specs.declared.Width.{Width}
 use Rattle.field.specs.declared.Width.the-variants as WI
 use Rattle.field.proofs.Laws.{memory-least}
 use Rattle.packet.specs.Packet.{addressIn, lengthIn}
-use Rattle.build.specs.Build.{fields, bytesOf}
+use Rattle.build.specs.Build.{bytesOf}
 use Rattle.build.specs.declared.Request.the-variants as Q
 use Rattle.build.proofs.RoundTrip.{read-address, read-length}
 use Rattle.fetch.specs.Plain.{isRead, readsAs, bytesAt}

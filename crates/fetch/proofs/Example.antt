@@ -8,7 +8,7 @@ use native.Mathlib.Omega.{arith}
 use lib.Dec.{ltb, lit≤, T}
 use lib.ListN.{take, getD, replicate}
 use Rattle.base.specs.Choice.{pick}
-use Rattle.field.specs.Field.{le, leBytes, fieldSize}
+use Rattle.field.specs.Field.{le, leBytes, fieldSize, fields, words}
 use Rattle.field.specs.declared.Width.{Width}
 use Rattle.field.specs.declared.Width.the-variants as WI
 use Rattle.utf8.specs.Utf8.{table, leads, afterFirst, goesOn}
@@ -18,7 +18,7 @@ use Rattle.selection.specs.Selection.{low, namesFrom, same, member, selected, n
 use Rattle.command.specs.Command.{modeOf, kinds, unimplemented, classOf}
 use Rattle.command.specs.declared.SaharaMode.the-variants as M
 use Rattle.packet.specs.Packet.{kindOf, decodeOf}
-use Rattle.build.specs.Build.{fields, words, bytesOf}
+use Rattle.build.specs.Build.{bytesOf}
 use Rattle.build.specs.declared.Request.the-variants as Q
 use Rattle.verdict.specs.Opening.{chunkOf, onUsb}
 use Rattle.verdict.specs.Verdict.{verdictOf}

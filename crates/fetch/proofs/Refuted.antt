@@ -8,7 +8,7 @@ use native.Mathlib.Omega.{arith}
 use lib.Dec.{ltb, lit≤, T}
 use lib.ListN.{length, getD, replicate}
 use Rattle.base.specs.Choice.{pick}
-use Rattle.field.specs.Field.{le, leBytes, fieldSize}
+use Rattle.field.specs.Field.{le, leBytes, fieldSize, fields}
 use Rattle.field.specs.declared.Width.{Width}
 use Rattle.field.specs.declared.Width.the-variants as WI
 use Rattle.utf8.specs.Utf8.{table, leads, afterFirst, goesOn}
@@ -18,7 +18,7 @@ use Rattle.filename.specs.Filename.{before, has, openCheck, afterOpenCheck, sou
 use Rattle.selection.specs.Selection.{same, selected, nextOf}
 use Rattle.command.specs.Command.{kinds, classOf}
 use Rattle.packet.specs.Packet.{kindOf, decodeOf}
-use Rattle.build.specs.Build.{fields, bytesOf}
+use Rattle.build.specs.Build.{bytesOf}
 use Rattle.verdict.specs.Opening.{chunkOf}
 use Rattle.verdict.specs.Verdict.{verdictOf}
 use Rattle.verdict.specs.declared.QdlBackend.{QdlBackend}

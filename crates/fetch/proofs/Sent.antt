@@ -7,9 +7,9 @@ use Prim.Native.Nat.{ℕ, _+_, _≤_}
 use native.Mathlib.Omega.{arith}
 use native.Mathlib.Nat.{add-assoc, zero-add}
 use lib.ListN.{length}
-use Rattle.field.specs.Field.{le, leBytes}
+use Rattle.field.specs.Field.{le, leBytes, fields}
 use Rattle.field.specs.declared.Width.the-variants as WI
-use Rattle.build.specs.Build.{fields, bytesOf, front}
+use Rattle.build.specs.Build.{bytesOf, front}
 use Rattle.build.specs.declared.Request.{Request}
 use Rattle.build.specs.declared.Request.the-variants as Q
 use Rattle.build.proofs.Laws.{size-most, length-front}

@@ -6,7 +6,7 @@ use mathlib.Core.Logic.{inl, inr}
 use mathlib.Core.List.{List, [], _∷_, _++_, map}
 use Prim.Native.Nat.{ℕ}
 use lib.ListN.{take, drop, replicate}
-use Rattle.field.specs.Field.{le, leBytes, fieldSize}
+use Rattle.field.specs.Field.{le, leBytes, fieldSize, fields, words}
 use Rattle.field.specs.declared.Width.{Width}
 use Rattle.field.specs.declared.Width.the-variants as WI
 use Rattle.bundle.specs.Bundle.{slotsGood, wellFormed, slotOf}
@@ -17,7 +17,7 @@ use Rattle.utf8.specs.Utf8.{table, leads, afterFirst, goesOn}
 use Rattle.selection.specs.Selection.{low, namesFrom, same, member, selected, nextOf}
 use Rattle.command.specs.Command.{kinds, classOf}
 use Rattle.packet.specs.Packet.{kindOf, decodeOf}
-use Rattle.build.specs.Build.{fields, words, bytesOf}
+use Rattle.build.specs.Build.{bytesOf}
 use Rattle.verdict.specs.Opening.{chunkOf}
 use Rattle.verdict.specs.Verdict.{verdictOf}
 use Rattle.verdict.specs.declared.QdlBackend.the-variants as U

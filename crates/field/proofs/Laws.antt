@@ -1,6 +1,6 @@
 -- Laws of little-endian fields, each once over the width: a field of a + b bytes, reading back what was written, bounds.
 use mathlib.Core.Path.{_≡_, refl, sym, ap, _∙_}
-use mathlib.Core.List.{List, [], _∷_, _++_, append-assoc}
+use mathlib.Core.List.{List, [], _∷_, _++_, append-assoc, append-nil}
 use mathlib.Core.Logic.{⊎-elim, _⊎_, inl, inr}
 use Prim.Native.Nat.{ℕ, zero, suc, _+_, _*_, _/_, _%_, _^_, _<_, _≤_}
 use native.Mathlib.Omega.{arith}
@@ -13,18 +13,22 @@ use native.Mathlib.Nat.{
   suc-add,
   mul-assoc,
   mul-comm,
+  mul-zero,
+  mul-suc,
+  add-comm,
   zero-add,
   pow-succ',
   one-le-pow,
   div-div-eq-div-mul,
 }
 use borrow.Author.Tests.{le-leb, lt-leb}
-use lib.ListN.{length, getD, drop, take, drop-of-length-le}
+use lib.ListN.{length, getD, drop, take, drop-of-length-le, length-append}
 use lib.Arith.{mod-mul}
 use lib.Dec.{lit<}
-use lib.Seq.{sets, sets-eq, drop-at, length-take-le}
+use lib.Seq.{sets, sets-eq, drop-at, drop-append-add, length-take-le}
+use Rattle.base.proofs.Lists.{sets-behind}
 use Rattle.base.proofs.Ranges.{below-or-not}
-use Rattle.field.specs.Field.{le, leBytes, fieldAt, field4, field8, putAt, written, fieldSize}
+use Rattle.field.specs.Field.{le, leBytes, fields, fieldAt, field4, field8, putAt, written, fieldSize}
 use Rattle.field.specs.declared.Width.{Width}
 use Rattle.field.specs.declared.Width.the-variants as WI
 use Rattle.field.specs.declared.Field4.the-variants as F4
@@ -202,3 +206,37 @@ module _ (s : List ℕ) (at : ℕ) where
 -- two lists with one front have its fields
 pub le-same : (w at k : ℕ) (s t : List ℕ) → at + w ≤ k → take k s ≡ take k t → le w (drop at s) ≡ le w (drop at t)
 le-same w at k s t h e = sym (le-within w at k s h) ∙ ap (λ (l : List ℕ). le w (drop at l)) e ∙ le-within w at k t h
+
+-- ---- rows of fields
+
+-- a row's length
+pub length-fields : (w : ℕ) (vs : List ℕ) → length (fields w vs) ≡ w * length vs
+unfolding fields
+length-fields w [] = sym (mul-zero w)
+length-fields w (v ∷ vs) = rw (length-append, length-leBytes w v, length-fields w vs, mul-suc w (length vs)) (add-comm w (w * length vs))
+
+-- behind one field stands what follows it
+drop-field : (w v n : ℕ) (s : List ℕ) → drop (w + n) (leBytes w v ++ s) ≡ drop n s
+drop-field w v n s = ap (λ (k : ℕ). drop (k + n) (leBytes w v ++ s)) (sym (length-leBytes w v)) ∙ drop-append-add (leBytes w v) s n
+
+-- field i of a row of fields of w bytes is read back, whatever stands behind the row
+pub field-back : (w i : ℕ) (vs rest : List ℕ) → i < length vs → getD vs i 0 < 256 ^ w → le w (drop (w * i) (fields w vs ++ rest)) ≡ getD vs i 0
+unfolding fields
+field-back w i [] rest h b = absurd (omega arith)
+field-back w zero (v ∷ vs) rest h b = rw (mul-zero w, append-assoc) (le-of-bytes w v _ b)
+field-back w (suc i) (v ∷ vs) rest h b =
+    rw (mul-suc w i, add-comm (w * i) w, append-assoc, drop-field w v (w * i) (fields w vs ++ rest)) (field-back w i vs rest (omega arith) b)
+
+-- a row of two rows
+pub fields-append : (w : ℕ) (us vs : List ℕ) → fields w (us ++ vs) ≡ fields w us ++ fields w vs
+unfolding fields
+fields-append w [] vs = refl
+fields-append w (u ∷ us) vs = ap (λ (s : List ℕ). leBytes w u ++ s) (fields-append w us vs) ∙ sym (append-assoc (leBytes w u) (fields w us) (fields w vs))
+
+-- a row of k fields is stored, and one field more
+pub fields-stored : (w k : ℕ) (vs : List ℕ) (v : ℕ) (d : List ℕ) (at : ℕ) → length vs ≡ k
+    → sets d at (fields w (vs ++ v ∷ [])) ≡ sets (sets d at (fields w vs)) (at + w * k) (leBytes w v)
+unfolding fields
+fields-stored w k vs v d at e =
+    ap (sets d at) (fields-append w vs (v ∷ []) ∙ ap (λ (s : List ℕ). fields w vs ++ s) (append-nil (leBytes w v)))
+    ∙ sets-behind (fields w vs) (leBytes w v) d at (at + w * k) (ap (λ (n : ℕ). at + n) (length-fields w vs ∙ ap (λ (n : ℕ). w * n) e))

@@ -2,7 +2,7 @@
 -- 4 and 8. One definition each way. Of a field that does not lie within the bytes, `le` takes the missing ones for 0, and `fieldAt` has an answer of
 -- its own.
 use Prim.Native.Nat.{ℕ, zero, suc, _+_, _*_, _/_, _%_}
-use mathlib.Core.List.{List, [], _∷_}
+use mathlib.Core.List.{List, [], _∷_, _++_}
 use lib.Dec.{leb}
 use lib.ListN.{length, drop}
 use lib.Seq.{sets}
@@ -26,6 +26,14 @@ le (suc w) (b ∷ bs) = b + 256 * le w bs
 unfoldable pub leBytes : ℕ → ℕ → List ℕ
 leBytes zero v = []
 leBytes (suc w) v = (v % 256) ∷ leBytes w (v / 256)
+
+-- fields of w bytes one after the other; words of 4 bytes
+unfoldable pub fields : ℕ → List ℕ → List ℕ
+fields w [] = []
+fields w (v ∷ vs) = leBytes w v ++ fields w vs
+
+abbrev pub words : List ℕ → List ℕ
+words = fields 4
 
 -- the field of w bytes at a place: told by `is` where it lies within the bytes, else `short`
 unfoldable pub fieldAt : {A : Type 0} → ℕ → (ℕ → A) → A → List ℕ → ℕ → A

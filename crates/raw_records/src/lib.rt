@@ -1,13 +1,15 @@
-// A table entry, an image range, a check, a built packet, a region sheet's answer and a forecast as plain numbers: what crosses to C and Rust.
+// A table entry, an image range, a check, a built packet, the answers of a region sheet and of a tidying and a forecast as plain numbers: what crosses to C and
+// Rust.
 use build::Built;
 use bundle::Checked;
 use entry::EntryAt;
 use forecast::Foreseen;
 use image::ImageRange;
 use sheet::Sheet;
+use tidy::Tidied;
 ghost use mathlib.Core.Path.{_≡_};
 ghost use Rattle.base.specs.Choice.{pick};
-ghost use Rattle.raw_records.specs.Records.{rawEntry, rawRange, rawSheet, rawForecast, checkedNumber, builtNumber};
+ghost use Rattle.raw_records.specs.Records.{rawEntry, rawRange, rawSheet, rawForecast, rawTidied, checkedNumber, builtNumber};
 
 #[repr(C)]
 pub struct RawEntry {
@@ -37,6 +39,12 @@ pub struct RawForecast {
     pub regions: u64,
     pub bytes: u64,
     pub reads: u64,
+    pub refused: u32,
+}
+
+#[repr(C)]
+pub struct RawTidied {
+    pub len: usize,
     pub refused: u32,
 }
 
@@ -108,6 +116,21 @@ pub fn raw_forecast(x: Foreseen) -> RawForecast
             regions: 0,
             bytes: 0,
             reads: 0,
+            refused: why as u32,
+        },
+    }
+}
+
+pub fn raw_tidied(x: Tidied) -> RawTidied
+    ensures { λ r. ⌜ r ≡ rawTidied x ⌝ }
+{
+    match x {
+        Tidied::Made(k) => RawTidied {
+            len: k,
+            refused: 0,
+        },
+        Tidied::Refused(why) => RawTidied {
+            len: 0,
             refused: why as u32,
         },
     }

@@ -2,7 +2,7 @@
 -- two numbers of a memory read are read back by the fields' law. Assumes nothing.
 use mathlib.Core.Path.{_≡_, refl}
 use Prim.Native.Nat.{ℕ, _^_, _<_}
-use Rattle.field.specs.Field.{le, leBytes, fieldSize}
+use Rattle.field.specs.Field.{le, leBytes, fieldSize, fields}
 use Rattle.field.specs.declared.Width.{Width}
 use Rattle.field.specs.declared.Width.the-variants as WI
 use Rattle.command.specs.Command.{modeOf, commandOf, kinds, classOf}
@@ -15,7 +15,7 @@ use Rattle.packet.specs.declared.SaharaPacketBody.{SaharaPacketBody}
 use Rattle.packet.specs.declared.SaharaPacketBody.the-variants as B
 use Rattle.packet.specs.declared.Decoded.{Decoded}
 use Rattle.packet.specs.declared.Decoded.the-variants as D
-use Rattle.build.specs.Build.{fields, bytesOf, sizeOf}
+use Rattle.build.specs.Build.{bytesOf, sizeOf}
 use Rattle.build.specs.declared.Request.the-variants as Q
 use Rattle.build.proofs.RoundTrip.{mem-read-back}
 

@@ -160,7 +160,5 @@ module _ (f : ℕ) (t : List ℕ) where
       → Tells sheetOutcomeTold (sheetOutcome (S.Made (sheetSize f t)) q) (sheetOf f t p)
   unfolding sheetOf
   writes p q h e =
-      let k : length (sheetBytes f t) ≡ sheetSize f t = length-sheet in
-      let r : q ≡ sheetBytes f t ++ drop (sheetSize f t) p =
-      e ∙ sets-front (sheetBytes f t) p (rw k h) ∙ ap (λ (n : ℕ). sheetBytes f t ++ drop n p) k in
+      let r : q ≡ sheetBytes f t ++ drop (sheetSize f t) p = e ∙ sets-front (sheetBytes f t) p (sheetSize f t) length-sheet h in
       tells sheetOutcomeTold (rw (le-ltb (length p) (sheetSize f t) h) (ap (sheetOutcome (S.Made (sheetSize f t))) r))

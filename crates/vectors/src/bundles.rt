@@ -1,4 +1,4 @@
-// Image sets, name lists and image ranges.
+// Image sets, name lists, image ranges and tidy forms.
 use crate::show;
 use crate::text;
 use bundle::Checked;
@@ -7,6 +7,9 @@ use bundle::check_names;
 use image::ImageId;
 use image::ImageRange;
 use image::image_range;
+use tidy::Tidied;
+use tidy::tidy;
+use tidy::tidy_len;
 
 fn checked(c: Checked) {
     match c {
@@ -47,4 +50,32 @@ pub(crate) fn range(line: &[u8]) {
         ImageRange::At(start, count) => at(start, count),
         ImageRange::Refused(k) => show::refused(k),
     }
+}
+
+fn tidied(t: Tidied) {
+    match t {
+        Tidied::Made(k) => show::number(k),
+        Tidied::Refused(why) => show::refused(why),
+    }
+}
+
+fn tidy_into(set: &[u8], to: &mut [u8]) {
+    tidied(tidy_len(set));
+    show::text(b" ");
+    tidied(tidy(set, to));
+    show::text(b" ");
+    show::bytes(to);
+}
+
+// z SET SIZE: how long the tidy form is, then it in a buffer of SIZE bytes of 0xAA, and the whole buffer afterwards.
+pub(crate) fn tidy_case(line: &[u8]) {
+    let mut set = [0u8; 1024];
+    let n = text::bytes(line, 1, &mut set);
+    let mut to = [0xAAu8; 1024];
+    let size = text::index(line, 2);
+    if 1024 < size {
+        show::nothing();
+        return;
+    }
+    tidy_into(&set[..n], &mut to[..size]);
 }

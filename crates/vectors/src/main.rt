@@ -15,6 +15,7 @@ fn packet_case(letter: u8, line: &[u8]) {
         b's' => bundles::images(line),
         b'n' => bundles::names(line),
         b'i' => bundles::range(line),
+        b'z' => bundles::tidy_case(line),
         b'#' => show::text(line),
         _ => region_case(letter, line),
     }

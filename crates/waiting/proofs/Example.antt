@@ -6,12 +6,11 @@ use mathlib.Core.List.{List, [], _∷_, _++_}
 use Prim.Native.Nat.{ℕ}
 use lib.Dec.{ltb, lit≤}
 use lib.ListN.{take, drop, replicate}
-use Rattle.field.specs.Field.{le, leBytes}
+use Rattle.field.specs.Field.{le, leBytes, fields, words}
 use Rattle.bundle.specs.Bundle.{slotsGood, wellFormed}
 use Rattle.command.specs.Command.{kinds, classOf}
 use Rattle.command.specs.declared.SaharaMode.the-variants as M
 use Rattle.packet.specs.Packet.{kindOf, decodeOf}
-use Rattle.build.specs.Build.{fields, words}
 use Rattle.verdict.specs.Verdict.{verdictOf}
 use Rattle.verdict.specs.declared.QdlBackend.the-variants as U
 use Rattle.verdict.specs.declared.ExecCommand.the-variants as X

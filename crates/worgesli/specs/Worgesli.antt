@@ -1,5 +1,5 @@
 -- What crosses to C and is told by no other crate: entries, the next selected one, the region sheet and the forecast by a width that is a number (document 02,
--- requests 2, 4 and 5), and the reset packet, built alone (document 01, "Building").
+-- requests 2, 4 and 5), the tidy form of an image set (its request 6), and the reset packet, built alone (document 01, "Building").
 use Prim.Native.Nat.{ℕ, _+_, _-_}
 use mathlib.Core.List.{List, []}
 use Rattle.base.specs.Choice.{pick}
@@ -12,10 +12,12 @@ use Rattle.forecast.specs.declared.Foreseen.{Foreseen}
 use Rattle.raw.specs.Raw.{widthOf, isWidth}
 use Rattle.build.specs.declared.Request.the-variants as Q
 use Rattle.build.specs.Build as B
-use Rattle.raw_records.specs.Records.{builtNumber, rawSheet}
+use Rattle.raw_records.specs.Records.{builtNumber, rawSheet, rawTidied}
 use Rattle.raw_records.specs.declared.RawSheet.{RawSheet}
+use Rattle.raw_records.specs.declared.RawTidied.{RawTidied}
 use Rattle.sheet.specs.Sheet.{SheetOutcome, sheetOutcome, sheetOf}
 use Rattle.sheet.specs.declared.Sheet.the-variants as S
+use Rattle.tidy.specs.Tidy.{TidyOutcome}
 
 -- entry i of a table; of a number that is no width there is none
 unfoldable pub entryRaw : List ℕ → ℕ → ℕ → EntryAt
@@ -44,6 +46,17 @@ crossed x = pageOutcome (rawSheet (x .sheet)) (x .page)
 -- the forecast of a table; of a number that is no width there is no entry
 unfoldable pub forecastRaw : List ℕ → ℕ → List ℕ → Foreseen
 forecastRaw t n names = forecastOf 4096 (pick (isWidth n) (entriesOf (fieldSize (widthOf n)) t) []) names
+
+-- the tidy form: the answer's numbers, and the buffer afterwards
+pub record RoomOutcome : Type 0 where
+  pub tidied : RawTidied
+  pub to : List ℕ
+
+abbrev pub roomOutcome : RawTidied → List ℕ → RoomOutcome
+roomOutcome x to = record { tidied = x; to = to }
+
+abbrev pub tidyRaw : TidyOutcome → RoomOutcome
+tidyRaw x = roomOutcome (rawTidied (x .tidied)) (x .to)
 
 -- Reset: its number, and the out buffer afterwards
 pub record ResetOutcome : Type 0 where

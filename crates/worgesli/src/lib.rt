@@ -17,6 +17,7 @@ use raw_records::RawEntry;
 use raw_records::RawForecast;
 use raw_records::RawRange;
 use raw_records::RawSheet;
+use raw_records::RawTidied;
 use sheet::Sheet;
 use sheet::region_sheet;
 ghost use mathlib.Core.Path.{_≡_};
@@ -26,9 +27,21 @@ ghost use Rattle.image.specs.Image.{rangeOf};
 ghost use Rattle.packet.specs.Packet.{decodeOf};
 ghost use Rattle.raw.specs.Raw.{isSession, openedRaw, steppedAt, toldIn};
 ghost use Rattle.raw_packet.specs.RawPacket.{rawPacket};
-ghost use Rattle.raw_records.specs.Records.{rawEntry, rawRange, rawForecast, checkedNumber};
+ghost use Rattle.raw_records.specs.Records.{rawEntry, rawRange, rawForecast, rawTidied, checkedNumber};
 ghost use Rattle.raw_step.specs.RawStep.{rawOutcome, stepRaw, rawAt, waitsAt, closedRaw, wantedRaw};
-ghost use Rattle.worgesli.specs.Worgesli.{entryRaw, nextRaw, pageOutcome, crossed, sheetRaw, forecastRaw, resetOutcome, resetRaw};
+ghost use Rattle.tidy.specs.Tidy.{tidyLenOf, tidyOf};
+ghost use Rattle.worgesli.specs.Worgesli.{
+  entryRaw,
+  nextRaw,
+  pageOutcome,
+  crossed,
+  sheetRaw,
+  forecastRaw,
+  roomOutcome,
+  tidyRaw,
+  resetOutcome,
+  resetRaw,
+};
 
 // The number of this interface: another where a struct or a function of it is another.
 #[no_mangle]
@@ -238,6 +251,22 @@ pub extern "C" fn worgesli_forecast_table(table: &[u8], width: u64, names: &[u8]
         return raw_records::raw_forecast(forecast_table(&table[..0], Width::Bits64, names));
     }
     raw_records::raw_forecast(forecast_table(table, raw::width_of(width), names))
+}
+
+// The tidy form of an image set, written to a buffer.
+#[no_mangle]
+pub extern "C" fn worgesli_tidy(set: &[u8], to: &mut [u8]) -> RawTidied
+    ensures { λ r. ⌜ roomOutcome r (now (to .exit)) ≡ tidyRaw (tidyOf (now (set .entry)) (now (to .entry))) ⌝ }
+{
+    raw_records::raw_tidied(tidy::tidy(set, to))
+}
+
+// How long it is.
+#[no_mangle]
+pub extern "C" fn worgesli_tidy_len(set: &[u8]) -> RawTidied
+    ensures { λ r. ⌜ r ≡ rawTidied (tidyLenOf (now (set .entry))) ⌝ }
+{
+    raw_records::raw_tidied(tidy::tidy_len(set))
 }
 
 // Whether the bytes are UTF-8.

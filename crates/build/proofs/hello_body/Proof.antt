@@ -1,8 +1,7 @@
 -- `build::hello_body` meets its contract: the seven stores, one behind the other, compute to the one; a long of 0 is two words of 0.
 -- Assumes nothing.
 use mathlib.Core.Path.{refl}
-use Rattle.field.specs.Field.{leBytes}
-use Rattle.build.specs.Build.{fields}
+use Rattle.field.specs.Field.{leBytes, fields}
 use borrow.Author.Needs.{needs}
 use Rattle.build.proofs.hello_body.Statement.{statement}
 use Rattle.build.proofs.hello_body.Tie as tie

@@ -1,9 +1,9 @@
 -- `build::mem_read64` meets its contract: refused where the test says so, else the header and two longs. Assumes nothing.
 use mathlib.Core.Path.{refl}
 use native.Mathlib.Omega.{arith}
-use Rattle.field.specs.Field.{leBytes}
+use Rattle.field.specs.Field.{leBytes, fields}
 use Rattle.field.specs.declared.Width.the-variants as WI
-use Rattle.build.specs.Build.{fields, bytesOf}
+use Rattle.build.specs.Build.{bytesOf}
 use Rattle.build.specs.declared.Request.the-variants as Q
 use Rattle.build.proofs.Laws.{refuses, builds}
 use borrow.Author.Needs.{needs}

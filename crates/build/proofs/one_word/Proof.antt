@@ -1,7 +1,6 @@
 -- `build::one_word` meets its contract: the header's store and the word's, one behind the other, compute to the one. Assumes nothing.
 use mathlib.Core.Path.{refl}
-use Rattle.field.specs.Field.{leBytes}
-use Rattle.build.specs.Build.{fields}
+use Rattle.field.specs.Field.{leBytes, fields}
 use borrow.Author.Needs.{needs}
 use Rattle.build.proofs.one_word.Statement.{statement}
 use Rattle.build.proofs.one_word.Tie as tie

@@ -2,8 +2,8 @@
 use native.Mathlib.Omega.{arith}
 use Rattle.build.specs.declared.Request.the-variants as Q
 use Rattle.build.proofs.Laws.{refuses, builds}
-use Rattle.field.specs.Field.{leBytes}
-use Rattle.build.specs.Build.{fields, bytesOf}
+use Rattle.field.specs.Field.{leBytes, fields}
+use Rattle.build.specs.Build.{bytesOf}
 use borrow.Author.Needs.{needs}
 use Rattle.build.proofs.sahara_send_done.Statement.{statement}
 use Rattle.build.proofs.sahara_send_done.Tie as tie

@@ -1,7 +1,6 @@
 -- `build::sahara_send_generic` meets its contract: the two stores, one behind the other, compute to the one. Assumes nothing.
 use mathlib.Core.Path.{refl}
-use Rattle.field.specs.Field.{leBytes}
-use Rattle.build.specs.Build.{fields}
+use Rattle.field.specs.Field.{leBytes, fields}
 use borrow.Author.Needs.{needs}
 use Rattle.build.proofs.sahara_send_generic.Statement.{statement}
 use Rattle.build.proofs.sahara_send_generic.Tie as tie

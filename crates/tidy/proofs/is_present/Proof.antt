@@ -1,0 +1,40 @@
+-- `tidy::is_present` meets its contract: by the slot's cases. Assumes nothing.
+use mathlib.Core.Path.{sym, ap, _∙_}
+use denote.Ref.{now}
+use Rattle.bundle.specs.declared.Slot.{Slot}
+use Rattle.writer.specs.Writer.{isPresent, contentAt}
+use borrow.Author.Needs.{needs}
+use Rattle.tidy.proofs.is_present.Statement.{statement}
+use Rattle.tidy.proofs.is_present.Tie as tie
+
+slot-at-requires : tie.Need-slot-at-requires
+slot-at-requires c κs = search needs
+
+enum-told : tie.Need-enum-told
+enum-told c = search needs
+
+enum-told-2 : tie.Need-enum-told-2
+enum-told-2 c = search needs
+
+enum-told-3 : tie.Need-enum-told-3
+enum-told-3 c = search needs
+
+returns : tie.Need-returns
+returns c =
+    let a = c .before .before .before .before .args in
+    sym (ap (λ (x : Slot). isPresent (contentAt (now (a .set)) x)) (sym (c .before .before .slot-at .ensures .is) ∙ c .enum-told .given .1))
+
+returns-2 : tie.Need-returns-2
+returns-2 c =
+    let a = c .before .before .before .before .args in
+    sym (ap (λ (x : Slot). isPresent (contentAt (now (a .set)) x)) (sym (c .before .before .slot-at .ensures .is) ∙ c .enum-told2 .given .1))
+
+returns-3 : tie.Need-returns-3
+returns-3 c =
+    let a = c .before .before .before .before .args in
+    sym (ap (λ (x : Slot). isPresent (contentAt (now (a .set)) x)) (sym (c .before .before .slot-at .ensures .is) ∙ c .enum-told3 .given .1))
+
+pub is-present-spec : {M : Type 1} → statement M
+is-present-spec =
+    tie.close
+    (tie.spec slot-at-requires enum-told enum-told-2 enum-told-3 returns returns-2 returns-3)

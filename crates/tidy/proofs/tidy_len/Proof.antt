@@ -1,0 +1,103 @@
+-- `tidy::tidy_len` meets its contract: by the check's answer, then by the sum. Assumes nothing.
+use mathlib.Core.Path.{_≡_, sym, ap, _∙_}
+use mathlib.Core.Bool.{true}
+use mathlib.Core.List.{List}
+use Prim.Native.Nat.{ℕ, _+_, _*_, _<_, _≤_, min}
+use native.Mathlib.Omega.{arith}
+use denote.Ref.{now}
+use lib.ListN.{length}
+use Rattle.base.proofs.Telling.{tells}
+use Rattle.bundle.specs.Bundle.{countOf, wellFormed, imagesChecked}
+use Rattle.bundle.specs.declared.Checked.the-variants as C
+use Rattle.bundle.proofs.Laws.{checked-good, checked-refused}
+use Rattle.writer.specs.Writer.{dataOf, mostData}
+use Rattle.tidy.specs.Tidy.{keptCount, firstContents, tidyBytes, tidyData, tidiedTold}
+use Rattle.tidy.specs.declared.Tidied.the-variants as T
+use Rattle.tidy.proofs.Laws.{kept-few, length-tidy, len-malformed, len-passes, len-made}
+use borrow.Author.Needs.{needs}
+use Rattle.tidy.proofs.tidy_len.Statement.{statement}
+use Rattle.tidy.proofs.tidy_len.Tie as tie
+
+check-images-requires : tie.Need-check-images-requires
+check-images-requires c κs = search needs
+
+enum-told : tie.Need-enum-told
+enum-told c = search needs
+
+enum-told-2 : tie.Need-enum-told-2
+enum-told-2 c = search needs
+
+returns : tie.Need-returns
+returns c =
+    let B : List ℕ = now (c .before .before .before .before .args .set) in
+    let e = sym (c .before .before .check-images .ensures .is) ∙ c .enum-told2 .given .1 in
+    tells tidiedTold (sym (len-malformed B (checked-refused (wellFormed true B) 1 _ e)))
+
+slots-kept-requires : tie.Need-slots-kept-requires
+slots-kept-requires c κs = search needs
+
+data-size-requires : tie.Need-data-size-requires
+data-size-requires c κs = search needs
+
+-- behind the check: the set is well-formed, and the sum is the tidy form's, or it passes the most
+pub record Measured (set : List ℕ) (n size : ℕ) : Type 0 where
+  pub good : wellFormed true set ≡ true
+  pub count : n ≡ keptCount set (countOf set)
+  pub sum : size ≡ min 4294967295 (tidyData set)
+
+measured : (c : tie.After-data-size) → Measured (now (c .before .before .before .before .before .before .args .set)) (c .before .slots-kept .result) (c .data-size .result)
+measured c =
+    let B : List ℕ = now (c .before .before .before .before .before .before .args .set) in
+    let e : imagesChecked B ≡ C.Good = cc in
+    record {
+      good = checked-good (wellFormed true B) 1 e;
+      count = c .before .slots-kept .ensures;
+      sum = c .data-size .ensures ∙ ap (λ (k : ℕ). min 4294967295 (length (dataOf (firstContents B k)))) (c .before .slots-kept .ensures);
+    }
+
+returns-2 : tie.Need-returns-2
+returns-2 c =
+    let B : List ℕ = now (c .before .before .before .before .before .before .before .args .set) in
+    let m = measured (c .before) in
+    let l : mostData < tidyData B = omega (arith, m .sum) in
+    tells tidiedTold (sym (len-passes B (m .good) l))
+
+mul-t6 : tie.Need-mul-t6
+mul-t6 c =
+    let m = measured (c .before) in
+    omega (arith, m .count, kept-few (now (c .before .before .before .before .before .before .before .args .set)) (m .good))
+
+add-t7 : tie.Need-add-t7
+add-t7 c =
+    let m = measured (c .before) in
+    omega (arith, m .count, kept-few (now (c .before .before .before .before .before .before .before .args .set)) (m .good))
+
+add-t8 : tie.Need-add-t8
+add-t8 c =
+    let m = measured (c .before) in
+    omega (arith, m .count, kept-few (now (c .before .before .before .before .before .before .before .args .set)) (m .good))
+
+returns-3 : tie.Need-returns-3
+returns-3 c =
+    let B : List ℕ = now (c .before .before .before .before .before .before .before .args .set) in
+    let m = measured (c .before) in
+    let l : tidyData B ≤ mostData = omega (arith, m .sum) in
+    let k : 8 + 8 * c .before .before .slots-kept .result + c .before .data-size .result ≡ length (tidyBytes B) =
+    omega (arith, m .count, m .sum, length-tidy B) in
+    tells tidiedTold (ap T.Made k ∙ sym (len-made B (m .good) l))
+
+pub tidy-len-spec : {M : Type 1} → statement M
+tidy-len-spec =
+    tie.close
+    (tie.spec
+    check-images-requires
+    enum-told
+    enum-told-2
+    returns
+    slots-kept-requires
+    data-size-requires
+    returns-2
+    mul-t6
+    add-t7
+    add-t8
+    returns-3)

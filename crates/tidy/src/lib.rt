@@ -1,0 +1,221 @@
+// The tidy form of an image set, written to a lent buffer.
+use bundle::Checked;
+use bundle::Slot;
+use bundle::SlotNumber;
+use bundle::check_images;
+use bundle::slot_at;
+use copy::copy_into;
+use field::put_u32;
+use field::u32_padded;
+ghost use mathlib.Core.Path.{_≡_};
+ghost use mathlib.Core.List.{map};
+ghost use Prim.Native.Nat.{_+_, _*_, _≤_, min};
+ghost use lib.ListN.{length};
+ghost use lib.Seq.{sets};
+ghost use Rattle.base.specs.Told.{Tells};
+ghost use Rattle.bundle.specs.Bundle.{countOf};
+ghost use Rattle.field.specs.Field.{words};
+ghost use Rattle.writer.specs.Writer.{isPresent, bytesIn, sizeIn, contentOf, dataOf, startFor, startsFrom, bundleBytes, mostData};
+ghost use Rattle.tidy.specs.Tidy.{
+  keptCount,
+  firstContents,
+  slotsKept,
+  tidyBytes,
+  tidyData,
+  tidyLenOf,
+  tidyOf,
+  tidiedTold,
+  tidyOutcome,
+  tidyTold,
+};
+
+// How many bytes the tidy form has, or the refusal.
+pub enum Tidied {
+    Made(usize),
+    Refused(u8),
+}
+
+// The most data bytes.
+const MOST: usize = 0xFFFFFFFE;
+
+// The start of an absent slot.
+const ABSENT: u32 = 0xFFFFFFFF;
+
+// Whether slot i is present.
+fn is_present(set: &[u8], i: usize) -> bool
+    ensures { λ r. ⌜ r ≡ isPresent (contentOf (now (set .entry)) i) ⌝ }
+{
+    match slot_at(set, SlotNumber(i)) {
+        Slot::At(_, _) => true,
+        Slot::Absent => false,
+        Slot::Missing => false,
+    }
+}
+
+// The bytes of slot i: how many.
+fn size_at(set: &[u8], i: usize) -> usize
+    ensures { λ r. ⌜ r ≡ sizeIn (contentOf (now (set .entry)) i) ⌝ }
+{
+    match slot_at(set, SlotNumber(i)) {
+        Slot::At(_, size) => size,
+        Slot::Absent => 0,
+        Slot::Missing => 0,
+    }
+}
+
+// The start of slot i behind so many bytes of data.
+fn start_at(set: &[u8], i: usize, before: u32) -> u32
+    ensures { λ r. ⌜ r ≡ startFor before (contentOf (now (set .entry)) i) ⌝ }
+{
+    match slot_at(set, SlotNumber(i)) {
+        Slot::At(_, _) => before,
+        Slot::Absent => ABSENT,
+        Slot::Missing => ABSENT,
+    }
+}
+
+// Of n slots those up to the last that is present: how many.
+fn kept_count(set: &[u8], n: usize) -> usize
+    ensures { λ r. ⌜ r ≡ keptCount (now (set .entry)) n ⌝ }
+{
+    let mut k = n;
+    while 0 < k {
+        if is_present(set, k - 1) {
+            return k;
+        }
+        k -= 1;
+    }
+    0
+}
+
+// The slots of the tidy form: how many.
+fn slots_kept(set: &[u8]) -> usize
+    ensures { λ r. ⌜ r ≡ keptCount (now (set .entry)) (countOf (now (set .entry))) ⌝ }
+{
+    kept_count(set, u32_padded(set, 0) as usize)
+}
+
+// The data bytes of the first n slots: how many, and of too many one more than the most.
+fn data_size(set: &[u8], n: usize) -> usize
+    ensures { λ r. ⌜ r ≡ min 4294967295 (length (dataOf (firstContents (now (set .entry)) n))) ⌝ }
+{
+    let mut total: usize = 0;
+    let mut i: usize = 0;
+    while i < n {
+        let size = size_at(set, i);
+        if MOST - total < size {
+            return MOST + 1;
+        }
+        total += size;
+        i += 1;
+    }
+    total
+}
+
+// How long the tidy form of a set is.
+pub fn tidy_len(set: &[u8]) -> Tidied
+    ensures { λ r. ⌜ Tells tidiedTold r (tidyLenOf (now (set .entry))) ⌝ }
+{
+    let Checked::Good = check_images(set) else {
+        return Tidied::Refused(28);
+    };
+    let n = slots_kept(set);
+    let size = data_size(set, n);
+    if MOST < size {
+        return Tidied::Refused(29);
+    }
+    Tidied::Made(8 + 8 * n + size)
+}
+
+// Writes the starts of the first n slots.
+fn put_starts(to: &mut [u8], set: &[u8], n: usize)
+    requires { ⌜ (8 + 4 * n ≤ length (now to)) × (length (dataOf (firstContents (now set) n)) ≤ mostData) ⌝ }
+    ensures { λ _. ⌜ now (to .exit) ≡ sets (now (to .entry)) 8 (words (startsFrom 0 (firstContents (now (set .entry)) n))) ⌝ }
+{
+    let mut sum: usize = 0;
+    let mut i: usize = 0;
+    while i < n {
+        put_u32(to, 8 + 4 * i, start_at(set, i, sum as u32));
+        sum += size_at(set, i);
+        i += 1;
+    }
+}
+
+// Writes their lengths.
+fn put_lengths(to: &mut [u8], at: usize, set: &[u8], n: usize)
+    requires { ⌜ (at + 4 * n ≤ length (now to)) × (length (dataOf (firstContents (now set) n)) ≤ mostData) ⌝ }
+    ensures { λ _. ⌜ now (to .exit) ≡ sets (now (to .entry)) at (words (map sizeIn (firstContents (now (set .entry)) n))) ⌝ }
+{
+    let mut i: usize = 0;
+    while i < n {
+        put_u32(to, at + 4 * i, size_at(set, i) as u32);
+        i += 1;
+    }
+}
+
+// Writes the bytes of slot i.
+fn put_content(to: &mut [u8], at: usize, set: &[u8], i: usize)
+    requires { ⌜ at + sizeIn (contentOf (now set) i) ≤ length (now to) ⌝ }
+    ensures { λ _. ⌜ now (to .exit) ≡ sets (now (to .entry)) at (bytesIn (contentOf (now (set .entry)) i)) ⌝ }
+{
+    match slot_at(set, SlotNumber(i)) {
+        Slot::At(from, size) => copy_into(to, at, &set[from..from + size], size),
+        Slot::Absent => {}
+        Slot::Missing => {}
+    }
+}
+
+// Writes the bytes of the first n slots, one behind the other.
+fn put_data(to: &mut [u8], at: usize, set: &[u8], n: usize)
+    requires { ⌜ at + length (dataOf (firstContents (now set) n)) ≤ length (now to) ⌝ }
+    ensures { λ _. ⌜ now (to .exit) ≡ sets (now (to .entry)) at (dataOf (firstContents (now (set .entry)) n)) ⌝ }
+{
+    let mut sum: usize = 0;
+    let mut i: usize = 0;
+    while i < n {
+        put_content(to, at + sum, set, i);
+        sum += size_at(set, i);
+        i += 1;
+    }
+}
+
+// Writes the tidy form, of n slots.
+fn put_form(to: &mut [u8], set: &[u8], n: usize, size: usize)
+    requires {
+        ⌜
+        (length (bundleBytes (firstContents (now set) n)) ≤ length (now to))
+        × (size ≡ length (dataOf (firstContents (now set) n)))
+        × (size ≤ mostData)
+        × (n ≤ 64)
+        ⌝ }
+    ensures { λ _. ⌜ now (to .exit) ≡ sets (now (to .entry)) 0 (bundleBytes (firstContents (now (set .entry)) n)) ⌝ }
+{
+    put_u32(to, 0, n as u32);
+    put_u32(to, 4, size as u32);
+    put_starts(to, set, n);
+    put_lengths(to, 8 + 4 * n, set, n);
+    put_data(to, 8 + 8 * n, set, n);
+}
+
+// The tidy form of this length.
+fn tidy_of(set: &[u8], to: &mut [u8], len: usize) -> Tidied
+    requires { ⌜ tidyLenOf (now set) ≡ Tidied.Made len ⌝ }
+    ensures { λ r. ⌜ tidyOutcome r (now (to .exit)) ≡ tidyOf (now (set .entry)) (now (to .entry)) ⌝ }
+{
+    if to.len() < len {
+        return Tidied::Refused(29);
+    }
+    let n = slots_kept(set);
+    put_form(to, set, n, len - 8 - 8 * n);
+    Tidied::Made(len)
+}
+
+// The tidy form of a set, as the first bytes of a buffer. Where it does not fit, nothing is written.
+pub fn tidy(set: &[u8], to: &mut [u8]) -> Tidied
+    ensures { λ r. ⌜ Tells tidyTold (tidyOutcome r (now (to .exit))) (tidyOf (now (set .entry)) (now (to .entry))) ⌝ }
+{
+    match tidy_len(set) {
+        Tidied::Made(len) => tidy_of(set, to, len),
+        Tidied::Refused(why) => Tidied::Refused(why),
+    }
+}
