@@ -125,10 +125,7 @@ pub fn raw_tidied(x: Tidied) -> RawTidied
     ensures { λ r. ⌜ r ≡ rawTidied x ⌝ }
 {
     match x {
-        Tidied::Made(k) => RawTidied {
-            len: k,
-            refused: 0,
-        },
+        Tidied::Made(k) => RawTidied { len: k, refused: 0 },
         Tidied::Refused(why) => RawTidied {
             len: 0,
             refused: why as u32,

@@ -135,9 +135,9 @@ given set form f = by (tidyLenOf set) refl
           good = m .0;
           little = m .1;
           is =
-            f .bytes
-            ∙ ap (λ (o : TidyOutcome). take (f .len) (o .to)) o
-            ∙ take-at (tidyBytes set) (drop k (f .to)) (f .len) (m .2 ∙ q);
+              f .bytes
+              ∙ ap (λ (o : TidyOutcome). take (f .len) (o .to)) o
+              ∙ take-at (tidyBytes set) (drop k (f .to)) (f .len) (m .2 ∙ q);
         })
         (below-or-not (length (f .to)) k)
 
@@ -151,13 +151,12 @@ same-images a p f =
 pub equal-exactly : EqualExactly
 equal-exactly a b p q f g =
     let x = given a p f in
-    let y = given b q g in
-    (
+    let y = given b q g in (
       λ h. x .is ∙ ap bundleBytes (slots-same a b (formed true a (x .good) .few) (formed true b (y .good) .few) h) ∙ sym (y .is),
       λ e i h.
-      sym (form-same a (x .good) (x .little) i)
-      ∙ ap (λ (s : List ℕ). contentOf s i) (sym (x .is) ∙ e ∙ y .is)
-      ∙ form-same b (y .good) (y .little) i,
+          sym (form-same a (x .good) (x .little) i)
+          ∙ ap (λ (s : List ℕ). contentOf s i) (sym (x .is) ∙ e ∙ y .is)
+          ∙ form-same b (y .good) (y .little) i,
     )
 
 pub twice-is-once : TwiceIsOnce

@@ -181,8 +181,7 @@ fn put_data(to: &mut [u8], at: usize, set: &[u8], n: usize)
 
 // Writes the tidy form, of n slots.
 fn put_form(to: &mut [u8], set: &[u8], n: usize, size: usize)
-    requires {
-        ⌜
+    requires { ⌜
         (length (bundleBytes (firstContents (now set) n)) ≤ length (now to))
         × (size ≡ length (dataOf (firstContents (now set) n)))
         × (size ≤ mostData)
