@@ -14,8 +14,8 @@ const ABSENT: u32 = u32::MAX;
 const MOST: u32 = ABSENT - 1;
 
 /// Slots of these lengths, one behind the other: the bytes of all of them. None where they are too many.
-fn data_len(lens: impl Iterator<Item = usize>) -> Option<u32> {
-    lens.into_iter().try_fold(0u32, |sum, len| sum.checked_add(len.try_into().ok()?)).filter(|sum| *sum <= MOST)
+fn data_len(mut lens: impl Iterator<Item = usize>) -> Option<u32> {
+    lens.try_fold(0u32, |sum, len| sum.checked_add(len.try_into().ok()?)).filter(|sum| *sum <= MOST)
 }
 
 /// Slots one behind the other: an empty one starts where the bytes before it end. None where they are too many or too long to be written.

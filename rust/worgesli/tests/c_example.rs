@@ -1016,7 +1016,10 @@ fn tidy(program: &Path, folder: &Temporary, from: &str, to: &str) -> Command {
 /// From `set` to `tidy`, with a shell's words around it.
 fn tidy_under(program: &Path, folder: &Temporary, before: &str, behind: &str) -> Command {
     let mut call = Command::new("sh");
-    call.args(["-c", &format!("{before} exec \"$0\" set tidy {behind}")]).arg(program).current_dir(&folder.0).stdin(Stdio::null());
+    call.args(["-c", &format!("{before} exec \"$0\" set tidy {behind}")])
+        .arg(program)
+        .current_dir(&folder.0)
+        .stdin(Stdio::null());
     call
 }
 
@@ -1076,7 +1079,9 @@ fn tidied_elsewhere() {
             assert_eq!(fs::metadata(folder.0.join("tidy")).unwrap().permissions().mode() & 0o777, mode);
             fs::remove_file(folder.0.join("tidy")).unwrap();
         }
-        for (to, why) in [("nowhere/tidy", "No such file"), ("set/tidy", "Not a directory"), ("dump/", "No such file"), ("", "No such file")] {
+        for (to, why) in
+            [("nowhere/tidy", "No such file"), ("set/tidy", "Not a directory"), ("dump/", "No such file"), ("", "No such file")]
+        {
             let said = Said::by(&mut tidy(program, &folder, "set", to));
             assert!(said.status == Some(1) && said.out.is_empty() && said.error.contains(why), "{to}: {said:?}");
         }
@@ -1118,7 +1123,9 @@ fn sets_that_are_refused() {
     for (_, program) in tidies() {
         let (set, promise) = (untidy(), [&[1, 0, 0, 0, 255, 255, 255, 255][..], &[0; 300]].concat());
         let longer = [&set[..], &[0]].concat();
-        for bytes in [&[][..], &[0; 7], &[0; 9], &set[..set.len() - 1], &longer, &[65, 0, 0, 0, 0, 0, 0, 0], &promise, &[255; 100_000]] {
+        for bytes in
+            [&[][..], &[0; 7], &[0; 9], &set[..set.len() - 1], &longer, &[65, 0, 0, 0, 0, 0, 0, 0], &promise, &[255; 100_000]]
+        {
             let folder = folder_with(bytes);
             not_tidied(&mut tidy(program, &folder, "set", "tidy"), &folder, &format!("tidy: set: {SET_WORDS}\n"));
         }
@@ -1132,7 +1139,9 @@ fn sets_that_are_refused() {
         assert_eq!(said.error, format!("tidy: set: {ROOM_WORDS}\ntidy: not written: tidy\n"));
         assert_eq!(fs::read_dir(&folder.0).unwrap().count(), 1);
         let folder = folder_with(&set);
-        for (from, why) in [(".", "Is a directory"), ("no-set", "No such file"), ("/dev/zero", SET_WORDS), ("/dev/null", SET_WORDS)] {
+        for (from, why) in
+            [(".", "Is a directory"), ("no-set", "No such file"), ("/dev/zero", SET_WORDS), ("/dev/null", SET_WORDS)]
+        {
             not_tidied(&mut tidy(program, &folder, from, "tidy"), &folder, why);
         }
     }

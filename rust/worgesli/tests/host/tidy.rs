@@ -126,7 +126,8 @@ fn random(rng: &mut Rng) -> Vec<u8> {
     let n = [0, 1, 2, 3, 63, 64, rng.below(65), rng.below(65)][rng.below(8) as usize] as usize;
     let mut data = vec![0; [0, 1, rng.below(8), rng.below(40), rng.below(500)][rng.below(5) as usize] as usize];
     rng.fill(&mut data);
-    let (size, absent, empty) = (data.len() as u64, [0, 100, 500, 1000][rng.below(4) as usize], [0, 200, 800][rng.below(3) as usize]);
+    let (size, absent, empty) =
+        (data.len() as u64, [0, 100, 500, 1000][rng.below(4) as usize], [0, 200, 800][rng.below(3) as usize]);
     let mut slots: Vec<(u32, u32)> = Vec::new();
     for i in 0..n {
         let start = rng.below(size + 1);
@@ -229,9 +230,13 @@ fn as_bundles_are_written() {
         }
         let (before, after) = (set.bytes()[0], tidied.bytes()[0]);
         for _ in 0..20 {
-            let id = if before == 1 || after == 1 { 0 } else { [rng.below(66), rng.number()][rng.below(8) as usize / 7] };
-            let len = set.bytes().len() as u64;
-            let (offset, len) = ([0, rng.below(9), rng.below(len)][rng.below(3) as usize], [0, rng.below(9), rng.below(len)][rng.below(3) as usize]);
+            let id = if before == 1 || after == 1 {
+                0
+            } else {
+                [rng.below(u64::from(before) + 2), rng.number()][rng.below(8) as usize / 7]
+            };
+            let mut some = || [0, 0, rng.below(4), rng.below(set.bytes().len() as u64)][rng.below(4) as usize];
+            let (offset, len) = (some(), some());
             // a set without a slot has none of ID 0, and one whose slots are all absent neither
             let range = tidied.image_range(id, offset, len);
             assert_eq!(range, set.image_range(id, offset, len), "{id}, {offset}, {len} of {:?}", set.bytes());
@@ -261,14 +266,18 @@ fn laid_out(rng: &mut Rng, images: &[Option<Vec<u8>>]) -> Vec<u8> {
         slots[i] = (start as u32, image.len() as u32);
     }
     data.extend(vec![0xaa; rng.below(4) as usize]);
-    slots.resize(images.len() + rng.below((SLOTS - images.len()) as u64 + 1) as usize, ABSENT);
+    if rng.chance(300) {
+        slots.resize(images.len() + rng.below((SLOTS - images.len()) as u64 + 1) as usize, ABSENT);
+    }
     set(&slots, &data)
 }
 
 /// The same images, or nearly the same.
 fn changed(rng: &mut Rng, images: &[Option<Vec<u8>>]) -> Vec<Option<Vec<u8>>> {
     let mut other = images.to_vec();
-    let Some(last) = other.len().checked_sub(1) else { return [vec![], vec![None], vec![Some(vec![])]][rng.below(3) as usize].clone() };
+    let Some(last) = other.len().checked_sub(1) else {
+        return [vec![], vec![None], vec![Some(vec![])]][rng.below(3) as usize].clone();
+    };
     let i = rng.below(other.len() as u64) as usize;
     match (rng.below(8), &mut other[i]) {
         (0, image @ None) => *image = Some(vec![]),
@@ -332,7 +341,11 @@ fn lengths(data: u32, slots: &[(u32, u32)]) -> Result<usize, u32> {
     let shorter = unsafe { (raw::worgesli_tidy_len(at, len - 1), raw::worgesli_tidy(at, len - 1, to.as_mut_ptr(), to.len())) };
     assert_eq!((shorter.0, shorter.1), (raw::Tidied { len: 0, refused: 28 }, raw::Tidied { len: 0, refused: 28 }));
     assert!(told.refused == 0 || told.len == 0);
-    if told.refused == 0 { Ok(told.len) } else { Err(told.refused) }
+    if told.refused == 0 {
+        Ok(told.len)
+    } else {
+        Err(told.refused)
+    }
 }
 
 /// Sums around the most data that a form may have, of ranges that are shared.
