@@ -1249,7 +1249,7 @@ fn sets_above_the_memory() {
     let folder = folder_with(&set_of(&[(0, 4); 64], b"abcd"));
     assert_eq!(Said::by(&mut tidy_under(program, &folder, limit, "")).status, Some(0));
     for (head, len, why) in [
-        (set_of(&[(0, 1 << 20); 64], &[]), 1 << 20, "tidy: tidy: Cannot allocate memory\n"),
+        (set_of(&[(0, 1 << 21); 64], &[]), 1 << 21, "tidy: tidy: Cannot allocate memory\n"),
         (set_of(&[(0, 1)], &[]), 1 << 30, "tidy: set: Cannot allocate memory\n"),
     ] {
         let folder = folder_with(&head);
