@@ -5,16 +5,19 @@ use device::Rng;
 use std::collections::BTreeMap;
 use worgesli::{raw, tidy, tidy_into, tidy_len, ImageSet, NameList, SLOTS};
 
-const ABSENT: (u32, u32) = (u32::MAX, 0);
+/// A slot's start and length.
+type Slot = (u32, u32);
+
+const ABSENT: Slot = (u32::MAX, 0);
 const SIDES: [Side; 2] = [Side::Behind, Side::Before];
 
-/// A bundle's numbers: the size of its data, and each slot's start and length.
-fn head(data: u32, slots: &[(u32, u32)]) -> Vec<u8> {
+/// A bundle's numbers: the size of its data, and the slots.
+fn head(data: u32, slots: &[Slot]) -> Vec<u8> {
     let numbers = [slots.len() as u32, data].into_iter().chain(slots.iter().map(|s| s.0)).chain(slots.iter().map(|s| s.1));
     numbers.flat_map(u32::to_le_bytes).collect()
 }
 
-fn set(slots: &[(u32, u32)], data: &[u8]) -> Vec<u8> {
+fn set(slots: &[Slot], data: &[u8]) -> Vec<u8> {
     [&head(data.len() as u32, slots)[..], data].concat()
 }
 
@@ -81,7 +84,7 @@ fn held(set: &Guarded, room: usize, side: Side) -> Result<Vec<u8>, u32> {
 
 #[test]
 fn forms_by_hand() {
-    let rows: [(&[(u32, u32)], &str, &[(u32, u32)], &str); 17] = [
+    let rows: [(&[Slot], &str, &[Slot], &str); 17] = [
         // nothing, and none that is there
         (&[], "", &[], ""),
         (&[], "gap", &[], ""),
@@ -128,7 +131,7 @@ fn random(rng: &mut Rng) -> Vec<u8> {
     rng.fill(&mut data);
     let (size, absent, empty) =
         (data.len() as u64, [0, 100, 500, 1000][rng.below(4) as usize], [0, 200, 800][rng.below(3) as usize]);
-    let mut slots: Vec<(u32, u32)> = Vec::new();
+    let mut slots: Vec<Slot> = Vec::new();
     for i in 0..n {
         let start = rng.below(size + 1);
         slots.push(match rng.below(6) {
@@ -329,7 +332,7 @@ fn equal_sets() {
 // ---- how long
 
 /// What the length of a form is said to be, and what tidying into little room says, of a set whose data no one may look at.
-fn lengths(data: u32, slots: &[(u32, u32)]) -> Result<usize, u32> {
+fn lengths(data: u32, slots: &[Slot]) -> Result<usize, u32> {
     let head = head(data, slots);
     let set = Beginning::new(&head, head.len() + data as usize);
     let (at, len) = set.parts();
@@ -353,12 +356,12 @@ fn lengths(data: u32, slots: &[(u32, u32)]) -> Result<usize, u32> {
 fn sums() {
     const MOST: u32 = u32::MAX;
     let all = |n, range| vec![(0, range); n];
-    let with = |mut slots: Vec<(u32, u32)>, last: &[(u32, u32)]| {
+    let with = |mut slots: Vec<Slot>, last: &[Slot]| {
         slots.extend(last);
         slots
     };
     let (range, half) = (1 << 26, 1 << 31);
-    let rows: [(u32, Vec<(u32, u32)>, Option<u64>); 24] = [
+    let rows: [(u32, Vec<Slot>, Option<u64>); 24] = [
         (MOST, all(1, MOST - 2), Some((1 << 32) - 3)),
         (MOST, all(1, MOST - 1), Some((1 << 32) - 2)),
         (MOST, all(1, MOST), None),
@@ -399,7 +402,7 @@ fn long_forms() {
     let mut data = vec![0; 1 << 20];
     Rng::new(64).fill(&mut data);
     let shared = set(&[(0, 1 << 20); 16], &data);
-    let parts: Vec<(u32, u32)> = (0..64).rev().map(|i| (i << 14, 1 << 14)).collect();
+    let parts: Vec<Slot> = (0..64).rev().map(|i| (i << 14, 1 << 14)).collect();
     for set in [shared, set(&parts, &data), set(&[(1, (1 << 20) - 1)], &data)] {
         let set = Guarded::new(&set, Side::Behind);
         let due = form(&slots(&set));
