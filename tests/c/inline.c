@@ -108,7 +108,7 @@ static void tidies(const uint8_t *set, size_t set_len, const uint8_t *form, size
 
 static void tidy(void)
 {
-    static const uint8_t zeros[8] = {0}, absent[24] = {2, 0, 0, 0, 0, 0, 0, 0, 255, 255, 255, 255, 255, 255, 255, 255}, many[8] = {65};
+    static const uint8_t zeros[9] = {0}, absent[24] = {2, 0, 0, 0, 0, 0, 0, 0, 255, 255, 255, 255, 255, 255, 255, 255}, many[8] = {65};
     for (size_t room = 0; room < 80; room++) {
         tidies(untidy, sizeof untidy, tidied, sizeof tidied, room, room < sizeof tidied ? WORGESLI_REFUSED_TIDY_ROOM : 0);
         tidies(tidied, sizeof tidied, tidied, sizeof tidied, room, room < sizeof tidied ? 29 : 0);
@@ -118,6 +118,7 @@ static void tidy(void)
         /* malformed, whatever the room */
         tidies(untidy, sizeof untidy - 1, NULL, 0, room, WORGESLI_REFUSED_TIDY_SET);
         tidies(zeros, 7, NULL, 0, room, 28);
+        tidies(zeros, 9, NULL, 0, room, 28);
         tidies(many, 8, NULL, 0, room, 28);
         tidies(NULL, 0, NULL, 0, room, 28);
     }

@@ -1102,11 +1102,11 @@ fn tidied_from_a_pipe() {
             let mut child = started(call.stdin(Stdio::piped()));
             let (mut stdin, bytes) = (child.stdin.take().unwrap(), set.clone());
             let writer = thread::spawn(move || {
-                let all = bytes.chunks(10_007).try_for_each(|piece| stdin.write_all(piece));
-                while goes_on {
-                    stdin.write_all(&[0; 4096])?;
+                bytes.chunks(10_007).try_for_each(|piece| stdin.write_all(piece))?;
+                if goes_on {
+                    std::iter::repeat([0; 4096]).try_for_each(|more| stdin.write_all(&more))?;
                 }
-                all
+                std::io::Result::Ok(())
             });
             let said = Said::of(child);
             assert_eq!((writer.join().unwrap().is_ok(), said.status), (!goes_on, Some(i32::from(goes_on))), "{said:?}");
