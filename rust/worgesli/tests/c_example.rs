@@ -1277,15 +1277,18 @@ fn wrong_calls_of_tidy() {
     }
 }
 
-/// With standard input, output and error closed, what is said to people does not reach the file.
+/// With standard output and error closed, what is said to people reaches no file, not even one that cannot be removed again.
 #[test]
 fn tidied_without_standard_descriptors() {
-    let Some(program) = TIDY.built(Build::Plain) else { return };
-    let folder = folder_with(&untidy());
-    for code in [0, 1] {
-        let status = tidy_under(program, &folder, "", "<&- >&- 2>&-").status().unwrap();
-        assert_eq!(status.code(), Some(code));
-        let files = files_of(&folder.0);
-        assert!(files.len() == 2 && files["tidy"] == tidied());
+    for (build, program) in tidies() {
+        for closed in [">&- 2>&-", "<&- >&- 2>&-"] {
+            let folder = folder_with(&untidy());
+            let mut call = tidy_under(program, &folder, "", closed);
+            let fails = build == Build::Checked;
+            let status = call.envs(fails.then_some(("FAIL", "unlinkat:1:5"))).status().unwrap();
+            assert_eq!(status.code(), Some(i32::from(fails)));
+            let files = files_of(&folder.0);
+            assert!(files.len() == 2 + usize::from(fails) && files["tidy"] == tidied(), "{files:?}");
+        }
     }
 }
