@@ -62,14 +62,14 @@ fn bundles(set: &ImageSet, names: &NameList) -> [u8; DIGEST] {
     digest(&[set.bytes(), names.bytes()])
 }
 
-/// The same of a run of version 0.4.0, which wrote empty images and names with another start. None where there is none: then it is the same digest.
+/// The same of a run that was saved by version 0.4.0 or before, in which empty images and names started at 0. None where that is the same digest.
 fn bundles_before(set: &ImageSet, names: &NameList) -> Option<[u8; DIGEST]> {
     let (images, list) = (set.before(), names.before());
     let same = set.bytes().starts_with(&images.0) && names.bytes().starts_with(&list.0);
     (!same).then(|| digest(&[&images.0, images.1, &list.0, list.1]))
 }
 
-/// Whether a run was saved with this image set and these names, by this version or the one before.
+/// Whether a run was saved with this image set and these names, by this version or one before.
 fn saved_with(sum: &[u8], set: &ImageSet, names: &NameList) -> bool {
     sum == bundles(set, names) || bundles_before(set, names).is_some_and(|before| sum == before)
 }
@@ -364,7 +364,7 @@ mod tests {
         }
     }
 
-    /// A run of version 0.4.0, in which empty images and names started at 0, goes on; and only with the same images and names, as they were given.
+    /// A run of version 0.4.0, in which empty images and names started at 0, goes on; and only with the same images and names, given as they were.
     #[test]
     fn saved_with_empty_slots_at_0() {
         let words = |words: &[u32]| words.iter().flat_map(|w| w.to_le_bytes()).collect::<Vec<u8>>();
