@@ -111,7 +111,7 @@ extern "C" {
 #define WORGESLI_KIND_READ_DATA64 0x12u
 
 /* what is refused: number, name (WORGESLI_REFUSED_...) and words (worgesli_refusal_text). 25 is a region sheet's (worgesli_region_sheet), 26 and 27 are a
- * forecast's (worgesli_forecast_table); no step is refused for these.
+ * forecast's (worgesli_forecast_table), 28 and 29 a tidy form's (worgesli_tidy); no step is refused for these.
  * A step is refused for the first that applies in the order of the requirement, in which 24 stands where 22 does.
  * 1, 2, 3, 4 and 18 are the caller's: session and buffers are as they were, nothing is taken, and once the bundle or buffer is right the step can be made.
  * Each other that a step is refused for ends the session: what was handed out of the open region is as it came, and not all of it. */
@@ -142,7 +142,9 @@ extern "C" {
     X(24, REGION_END_32, "a region of a 32-bit device ends above 2^32")                                                      \
     X(25, SHEET_PAGE, "the page has fewer than 57 bytes for each entry of the table")                                        \
     X(26, FORECAST_NAMES, "the name list of a forecast is malformed")                                                        \
-    X(27, FORECAST_SUM, "the bytes or the memory reads of a forecast are above 2^64 - 1")
+    X(27, FORECAST_SUM, "the bytes or the memory reads of a forecast are above 2^64 - 1")                                    \
+    X(28, TIDY_SET, "the image set that is to be tidied is malformed")                                                       \
+    X(29, TIDY_ROOM, "the tidy form is longer than its buffer, or has more than 2^32 - 2 data bytes")
 
 /* A session. Numbers that its phase does not use are 0. Keep it as it is: other bits are refused. A copy is a session of its own. */
 typedef struct worgesli_session {
@@ -203,6 +205,12 @@ typedef struct worgesli_forecast {
     uint64_t reads;   /* memory reads, the table's among them */
     uint32_t refused; /* 0; 26, 27: and all else is 0 */
 } worgesli_forecast;
+
+/* How long a tidy form is. */
+typedef struct worgesli_tidied {
+    size_t len;       /* all its bytes; 0 where it is refused */
+    uint32_t refused; /* 0; 28, 29 */
+} worgesli_tidied;
 
 /* A range of an image set's bytes; refused not 0: why there is none. */
 typedef struct worgesli_range {
@@ -307,6 +315,20 @@ worgesli_sheet worgesli_region_sheet(const uint8_t *table, size_t table_len, uin
  * Archives of number 2 from before this function do not have it: who uses dlopen looks. */
 worgesli_forecast worgesli_forecast_table(const uint8_t *table, size_t table_len, uint64_t width, const uint8_t *names, size_t names_len);
 
+/* The tidy form of an image set, so that equal sets have equal files. Two sets are equal if each ID below WORGESLI_SLOTS, looked up as a plain slot (a single
+ * slot serves its own ID alone here), has the same bytes in both or is absent in both; an empty image is not absent. Just then are their tidy forms the same
+ * bytes, where neither is refused. The form is an image set itself: the data in slot order, each present image's bytes once for its slot, also where slots
+ * share them, without gaps; an empty image starts where the bytes before it end; an absent slot has its mark, and those behind the last present one are
+ * dropped. Of a set without an image it is 8 zero bytes. Tidied again it stays as it is. Where slot 0 alone is left, it serves every ID, as in each set of one.
+ * It is written to `to` from its first byte on, and what is behind it there is as it was. 28 where the set is malformed, which is looked at first; else 29 where
+ * the form is longer than `to`, or has more than 2^32 - 2 data bytes (an empty image must not start at the mark of an absent one): then all of `to` is as it
+ * was. Since shared bytes are written for each slot, it may be far longer than the set: worgesli_tidy_len tells.
+ * Archives of number 2 from before this function and the next do not have them: who uses dlopen looks. */
+worgesli_tidied worgesli_tidy(const uint8_t *set, size_t set_len, uint8_t *to, size_t to_len);
+
+/* How long the tidy form is, for who allocates. 28 where the set is malformed; else 29, only for more than 2^32 - 2 data bytes. */
+worgesli_tidied worgesli_tidy_len(const uint8_t *set, size_t set_len);
+
 /* Whether the bytes are UTF-8. */
 bool worgesli_utf8(const uint8_t *bytes, size_t bytes_len);
 
@@ -387,14 +409,16 @@ static inline void worgesli_put(uint8_t *to, uint64_t number)
 }
 
 /* Makes a bundle of n slots, one behind the other, and gives its length: written to `to` where it fits, and where it does not, or `to` is NULL, nothing is.
- * 0: there is none, for more than 64 slots, data of 4 GiB or more, a slot that is NULL and has a length, or slots NULL where n is not 0. */
+ * An empty slot starts where the bytes before it end: where the last slot is not absent, these are the bytes of a tidy form (worgesli_tidy).
+ * 0: there is none, for more than 64 slots, more than 2^32 - 2 data bytes (so that no empty slot starts at the mark of an absent one), a slot that is NULL and
+ * has a length, or slots NULL where n is not 0. */
 static inline size_t worgesli_bundle(const worgesli_slot *slots, size_t n, uint8_t *to, size_t to_len)
 {
     uint64_t data = 0;
     if (n > WORGESLI_SLOTS || (n > 0 && slots == NULL))
         return 0;
     for (size_t i = 0; i < n; i++) {
-        if ((slots[i].bytes == NULL && slots[i].len > 0) || slots[i].len > 0xFFFFFFFFu - data)
+        if ((slots[i].bytes == NULL && slots[i].len > 0) || slots[i].len > 0xFFFFFFFEu - data)
             return 0;
         data += slots[i].len;
     }
@@ -406,8 +430,7 @@ static inline size_t worgesli_bundle(const worgesli_slot *slots, size_t n, uint8
     size_t at = 0;
     for (size_t i = 0; i < n; i++) {
         const worgesli_slot slot = slots[i];
-        /* an empty slot starts at 0, so that none has the mark of an absent one */
-        worgesli_put(to + 8 + 4 * i, slot.bytes == NULL ? 0xFFFFFFFFu : slot.len == 0 ? 0 : at);
+        worgesli_put(to + 8 + 4 * i, slot.bytes == NULL ? 0xFFFFFFFFu : at);
         worgesli_put(to + 8 + 4 * n + 4 * i, slot.len);
         if (slot.len > 0)
             memcpy(to + head + at, slot.bytes, slot.len);
@@ -436,6 +459,7 @@ WORGESLI_ASSERT(sizeof(worgesli_placed) == 40, "worgesli_placed");
 WORGESLI_ASSERT(sizeof(worgesli_entry) == 72, "worgesli_entry");
 WORGESLI_ASSERT(sizeof(worgesli_sheet) == 16, "worgesli_sheet");
 WORGESLI_ASSERT(sizeof(worgesli_forecast) == 32, "worgesli_forecast");
+WORGESLI_ASSERT(sizeof(worgesli_tidied) == 16, "worgesli_tidied");
 WORGESLI_ASSERT(sizeof(worgesli_range) == 24, "worgesli_range");
 WORGESLI_ASSERT(sizeof(worgesli_packet) == 64, "worgesli_packet");
 

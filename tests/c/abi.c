@@ -3,6 +3,7 @@
  * numbers of modes, commands, backends, widths, phases, answers and kinds of packets.
  */
 #include <stdio.h>
+#include <stdlib.h>
 #include <string.h>
 
 #include "worgesli.h"
@@ -649,6 +650,70 @@ static void sums(void)
     }
 }
 
+/* ---- tidy forms */
+
+static const uint8_t mark[4] = {255, 255, 255, 255};
+
+/* A set of n slots in `to`, over so many bytes, each of them all of these; gives its length. */
+static size_t shared(uint8_t *to, size_t n, size_t data)
+{
+    put(to, 4, n), put(to + 4, 4, data);
+    for (size_t i = 0; i < n; i++)
+        put(to + 8 + 4 * i, 4, 0), put(to + 8 + 4 * n + 4 * i, 4, data);
+    return 8 + 8 * n + data;
+}
+
+static bool tidies(const uint8_t *set, size_t set_len, size_t len, uint64_t refused)
+{
+    const worgesli_tidied r = worgesli_tidy_len(set, set_len);
+    return r.len == len && r.refused == refused;
+}
+
+/* Each slot of the set alone is present: the marks before it stay, those behind it do not. */
+static void alone(void)
+{
+    uint8_t set[8 + 8 * WORGESLI_SLOTS + 3], to[sizeof set + 1];
+    for (size_t i = 0; i < WORGESLI_SLOTS; i++) {
+        const size_t len = shared(set, WORGESLI_SLOTS, 3), due = 8 + 8 * (i + 1) + 2;
+        memcpy(set + len - 3, "xyz", 3);
+        for (size_t j = 0; j < WORGESLI_SLOTS; j++)
+            if (j != i)
+                memcpy(set + 8 + 4 * j, mark, 4), put(set + 8 + 4 * (WORGESLI_SLOTS + j), 4, 0);
+        put(set + 8 + 4 * i, 4, 1), put(set + 8 + 4 * (WORGESLI_SLOTS + i), 4, 2);
+        memset(to, 0x5a, sizeof to);
+        worgesli_tidied r = worgesli_tidy(set, len, to, due - 1);
+        EXPECT(r.refused == WORGESLI_REFUSED_TIDY_ROOM && r.len == 0 && to[0] == 0x5a && to[due - 2] == 0x5a && tidies(set, len, due, 0));
+        r = worgesli_tidy(set, len, to, sizeof to);
+        EXPECT(r.refused == 0 && r.len == due && to[0] == i + 1 && to[4] == 2 && memcmp(to + due - 2, "yz", 2) == 0 && to[due] == 0x5a);
+        for (size_t j = 0; j < i; j++)
+            EXPECT(memcmp(to + 8 + 4 * j, mark, 4) == 0 && memcmp(to + 8 + 4 * (i + 1 + j), none, 4) == 0);
+        EXPECT(memcmp(to + 8 + 4 * i, none, 4) == 0 && to[8 + 4 * (2 * i + 1)] == 2);
+        EXPECT(worgesli_check_images(to, due) == 0 && tidies(to, due, due, 0) && worgesli_image_range(to, due, i, 0, 2).start == due - 2);
+    }
+}
+
+/* Slots that share a range, up to more data than a form may have: no byte of it is read to say so. */
+static void forms(void)
+{
+    const size_t range = (size_t)1 << 26, head = 8 + 8 * WORGESLI_SLOTS;
+    uint8_t *set = calloc(head + range, 1), to[600];
+    EXPECT(set != NULL && WORGESLI_REFUSED_TIDY_SET == 28 && WORGESLI_REFUSED_TIDY_ROOM == 29);
+    if (set == NULL)
+        return;
+    memset(to, 0x5a, sizeof to);
+    const size_t len = shared(set, WORGESLI_SLOTS, range);
+    EXPECT(tidies(set, len, 0, 29) && worgesli_tidy(set, len, to, sizeof to).refused == 29);
+    for (size_t less = 0; less < 5; less++) {
+        put(set + head - 4, 4, range - less); /* the last slot's length */
+        EXPECT(less < 2 ? tidies(set, len, 0, 29) : tidies(set, len, head + ((size_t)1 << 32) - less, 0));
+        EXPECT(worgesli_tidy(set, len, to, sizeof to).refused == 29 && tidies(set, len - 1, 0, 28));
+    }
+    for (size_t i = 0; i < sizeof to; i++)
+        EXPECT(to[i] == 0x5a);
+    free(set);
+    alone();
+}
+
 /* ---- NULL with length 0, for every slice */
 
 static void nulls(void)
@@ -681,6 +746,8 @@ static void nulls(void)
         EXPECT(worgesli_forecast_table(NULL, 0, width, NULL, 0).refused == 26 && worgesli_forecast_table(table, 64, width, NULL, 0).refused == 26);
     }
     EXPECT(worgesli_region_sheet(none, sizeof none, 64, NULL, 0).refused == 0 && worgesli_region_sheet(table, 64, 64, NULL, 0).refused == 25);
+    EXPECT(worgesli_tidy(NULL, 0, NULL, 0).refused == 28 && worgesli_tidy(NULL, 0, table, sizeof table).refused == 28);
+    EXPECT(worgesli_tidy(none, 8, NULL, 0).refused == 29 && worgesli_tidy_len(NULL, 0).refused == 28);
     EXPECT(worgesli_utf8(NULL, 0));
     EXPECT(worgesli_parse_packet(NULL, 0).refused == 9);
     EXPECT(worgesli_reset(NULL, 0) == 3);
@@ -788,6 +855,7 @@ int main(void)
     sheets();
     forecasts_of_boards();
     sums();
+    forms();
     nulls();
     return failed;
 }

@@ -1,5 +1,5 @@
-/* Makes bundles with worgesli_bundle. Standard input has, for each, the slot count, then each slot's length (0xFFFFFFFF: absent) and bytes; standard output
- * gets its length and bytes. Numbers have 4 bytes, little-endian.
+/* Makes bundles with worgesli_bundle, and tidies each. Standard input has, for each, the slot count, then each slot's length (0xFFFFFFFF: absent) and bytes;
+ * standard output gets its length and bytes, then those of its tidy form. Numbers have 4 bytes, little-endian.
  */
 #include <stdio.h>
 #include <stdlib.h>
@@ -12,6 +12,13 @@ static uint32_t number(void)
     for (unsigned i = 0; i < 4; i++)
         n |= (uint32_t)getchar() << (8 * i);
     return n;
+}
+
+static void tell(const uint8_t *bytes, size_t len)
+{
+    for (unsigned i = 0; i < 4; i++)
+        putchar((int)(len >> (8 * i) & 0xff));
+    fwrite(bytes, 1, len, stdout);
 }
 
 int main(void)
@@ -34,12 +41,15 @@ int main(void)
         uint8_t *bundle = malloc(size + 1);
         if (worgesli_bundle(slots, n, bundle, size) != size)
             return 1;
-        for (unsigned i = 0; i < 4; i++)
-            putchar((int)(size >> (8 * i) & 0xff));
-        fwrite(bundle, 1, size, stdout);
+        tell(bundle, size);
+        const size_t len = worgesli_tidy_len(bundle, size).len;
+        uint8_t *form = malloc(len + 1);
+        if (worgesli_tidy(bundle, size, form, len).len != len)
+            return 1;
+        tell(form, len);
         for (uint32_t i = 0; i < n; i++)
             free((void *)(uintptr_t)slots[i].bytes);
-        free(slots), free(bundle);
+        free(slots), free(bundle), free(form);
     }
     return 0;
 }

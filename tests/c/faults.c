@@ -1,7 +1,7 @@
-/* System calls of examples/fetch.c that do what they may, linked around it with --wrap. FAULTS is a seed: reads and writes move a part of what they could, are
- * interrupted, find a port that is not ready or, reading, 0 bytes; but no more than 3 times in a row nothing comes. FAIL is CALL:N:ERRNO: the N-th call of
- * that name, and each after it, fails. A write to the port is no `write` there. FREE: so many blocks of 512 bytes are free. FORECAST is 0, 1 or 2: a forecast's
- * regions, bytes or memory reads are one more.
+/* System calls of examples/fetch.c and examples/tidy.c that do what they may, linked around each with --wrap. FAULTS is a seed: reads and writes move a part
+ * of what they could, are interrupted, find a port that is not ready or, reading from it, 0 bytes; but no more than 3 times in a row nothing comes. FAIL is
+ * CALL:N:ERRNO: the N-th call of that name, and each after it, fails. What is read from the port or written to it is no `read` or `write` there. FREE: so many
+ * blocks of 512 bytes are free. FORECAST is 0, 1 or 2: a forecast's regions, bytes or memory reads are one more.
  */
 #define _POSIX_C_SOURCE 200809L
 #include <errno.h>
@@ -23,20 +23,30 @@ ssize_t __real_read(int, void *, size_t);
 ssize_t __real_write(int, const void *, size_t);
 int __real_poll(struct pollfd *, nfds_t, int);
 int __real_fsync(int);
+int __real_open(const char *, int, ...);
 int __real_openat(int, const char *, int, ...);
+int __real_linkat(int, const char *, int, const char *, int);
+int __real_unlinkat(int, const char *, int);
 int __real_renameat(int, const char *, int, const char *);
 int __real_fstatat(int, const char *, struct stat *, int);
 int __real_fstatvfs(int, struct statvfs *);
+void *__real_malloc(size_t);
+void *__real_realloc(void *, size_t);
 worgesli_forecast __real_worgesli_forecast_table(const uint8_t *, size_t, uint64_t, const uint8_t *, size_t);
 
 ssize_t __wrap_read(int, void *, size_t);
 ssize_t __wrap_write(int, const void *, size_t);
 int __wrap_poll(struct pollfd *, nfds_t, int);
 int __wrap_fsync(int);
+int __wrap_open(const char *, int, ...);
 int __wrap_openat(int, const char *, int, ...);
+int __wrap_linkat(int, const char *, int, const char *, int);
+int __wrap_unlinkat(int, const char *, int);
 int __wrap_renameat(int, const char *, int, const char *);
 int __wrap_fstatat(int, const char *, struct stat *, int);
 int __wrap_fstatvfs(int, struct statvfs *);
+void *__wrap_malloc(size_t);
+void *__wrap_realloc(void *, size_t);
 worgesli_forecast __wrap_worgesli_forecast_table(const uint8_t *, size_t, uint64_t, const uint8_t *, size_t);
 
 static int silent;
@@ -88,11 +98,20 @@ static size_t part(size_t n)
     return below(2) == 0 && n > 0 ? 1 + below(n) : n;
 }
 
+static bool is_file(int fd)
+{
+    struct stat s;
+    return fstat(fd, &s) == 0 && S_ISREG(s.st_mode);
+}
+
 ssize_t __wrap_read(int fd, void *to, size_t n)
 {
+    const bool file = is_file(fd);
+    if (file && fails("read"))
+        return -1;
     if (below(8) == 0)
         return with(EINTR);
-    if (silence())
+    if (!file && silence())
         return below(2) == 0 ? 0 : with(EAGAIN);
     const ssize_t k = __real_read(fd, to, part(n));
     silent = k > 0 ? 0 : silent;
@@ -101,8 +120,7 @@ ssize_t __wrap_read(int fd, void *to, size_t n)
 
 ssize_t __wrap_write(int fd, const void *from, size_t n)
 {
-    struct stat s;
-    const bool file = fstat(fd, &s) == 0 && S_ISREG(s.st_mode);
+    const bool file = is_file(fd);
     if (file && fails("write"))
         return -1;
     if (below(8) == 0)
@@ -130,6 +148,15 @@ int __wrap_fsync(int fd)
     return below(4) == 0 ? with(EINTR) : __real_fsync(fd);
 }
 
+int __wrap_open(const char *path, int flags, ...)
+{
+    va_list list;
+    va_start(list, flags);
+    const unsigned mode = flags & O_CREAT ? va_arg(list, unsigned) : 0;
+    va_end(list);
+    return fails("open") ? -1 : __real_open(path, flags, mode);
+}
+
 int __wrap_openat(int folder, const char *name, int flags, ...)
 {
     va_list list;
@@ -137,6 +164,16 @@ int __wrap_openat(int folder, const char *name, int flags, ...)
     const unsigned mode = flags & O_CREAT ? va_arg(list, unsigned) : 0;
     va_end(list);
     return fails("openat") ? -1 : __real_openat(folder, name, flags, mode);
+}
+
+int __wrap_linkat(int from, const char *name, int to, const char *new_name, int flags)
+{
+    return fails("linkat") ? -1 : __real_linkat(from, name, to, new_name, flags);
+}
+
+int __wrap_unlinkat(int folder, const char *name, int flags)
+{
+    return fails("unlinkat") ? -1 : __real_unlinkat(folder, name, flags);
 }
 
 int __wrap_renameat(int from, const char *name, int to, const char *new_name)
@@ -157,6 +194,16 @@ int __wrap_fstatvfs(int fd, struct statvfs *to)
     if (blocks != NULL)
         to->f_frsize = 512, to->f_bavail = (fsblkcnt_t)strtoull(blocks, NULL, 10);
     return 0;
+}
+
+void *__wrap_malloc(size_t n)
+{
+    return fails("malloc") ? NULL : __real_malloc(n);
+}
+
+void *__wrap_realloc(void *from, size_t n)
+{
+    return fails("realloc") ? NULL : __real_realloc(from, n);
 }
 
 worgesli_forecast __wrap_worgesli_forecast_table(const uint8_t *table, size_t table_len, uint64_t width, const uint8_t *names, size_t names_len)

@@ -1,4 +1,6 @@
-/* What include/worgesli.h has in line: the refusals' words and the bundles; a region sheet by its macros, and a forecast. Compiled and run as C and as C++. */
+/* What include/worgesli.h has in line: the refusals' words and the bundles; a region sheet by its macros, a forecast, and tidy forms beside the bundles.
+ * Compiled and run as C and as C++.
+ */
 #include <stdio.h>
 #include <stdlib.h>
 
@@ -30,12 +32,12 @@ static void words(void)
 {
     const char *none = worgesli_refusal_text(0);
     EXPECT(strcmp(none, "no such refusal") == 0);
-    for (uint64_t n = 1; n <= 27; n++) {
+    for (uint64_t n = 1; n <= 29; n++) {
         EXPECT(strcmp(worgesli_refusal_text(n), none) != 0);
         for (uint64_t m = 1; m < n; m++)
             EXPECT(strcmp(worgesli_refusal_text(n), worgesli_refusal_text(m)) != 0);
     }
-    EXPECT(strcmp(worgesli_refusal_text(28), none) == 0 && strcmp(worgesli_refusal_text(UINT64_MAX), none) == 0);
+    EXPECT(strcmp(worgesli_refusal_text(30), none) == 0 && strcmp(worgesli_refusal_text(UINT64_MAX), none) == 0);
     EXPECT(strcmp(worgesli_refusal_text((UINT64_C(1) << 32) + 1), none) == 0);
     EXPECT(strcmp(worgesli_refusal_text(WORGESLI_REFUSED_CLOSED), "the channel was closed before the end") == 0);
     EXPECT(WORGESLI_REFUSED_IMAGE_SET == 1 && WORGESLI_REFUSED_LIMIT == 18 && WORGESLI_REFUSED_CLOSED == 23);
@@ -43,6 +45,9 @@ static void words(void)
     EXPECT(strcmp(worgesli_refusal_text(WORGESLI_REFUSED_SHEET_PAGE), "the page has fewer than 57 bytes for each entry of the table") == 0);
     EXPECT(WORGESLI_REFUSED_FORECAST_NAMES == 26 && WORGESLI_REFUSED_FORECAST_SUM == 27);
     EXPECT(strcmp(worgesli_refusal_text(WORGESLI_REFUSED_FORECAST_SUM), "the bytes or the memory reads of a forecast are above 2^64 - 1") == 0);
+    EXPECT(WORGESLI_REFUSED_TIDY_SET == 28 && WORGESLI_REFUSED_TIDY_ROOM == 29);
+    EXPECT(strcmp(worgesli_refusal_text(WORGESLI_REFUSED_TIDY_SET), "the image set that is to be tidied is malformed") == 0);
+    EXPECT(strcmp(worgesli_refusal_text(WORGESLI_REFUSED_TIDY_ROOM), "the tidy form is longer than its buffer, or has more than 2^32 - 2 data bytes") == 0);
 }
 
 /* ---- a region sheet */
@@ -80,12 +85,56 @@ static void forecast(void)
     EXPECT(r.refused == WORGESLI_REFUSED_FORECAST_NAMES && r.regions == 0 && r.bytes == 0 && r.reads == 0);
 }
 
+/* ---- tidy forms */
+
+/* "ef", none, "abc", an empty image, "bcd", none, none; '-' is no slot's. */
+static const uint8_t untidy[] = {7, 0, 0, 0, 7, 0, 0, 0, 5, 0, 0, 0, 255, 255, 255, 255, 0, 0, 0, 0, 3, 0, 0, 0, 1, 0, 0, 0, 255, 255, 255, 255, 255, 255, 255, 255,
+                                 2, 0, 0, 0, 0, 0, 0, 0, 3, 0, 0, 0, 0, 0, 0, 0, 3, 0, 0, 0, 0, 0, 0, 0, 0, 0, 0, 0, 'a', 'b', 'c', 'd', '-', 'e', 'f'};
+static const uint8_t tidied[] = {5, 0, 0, 0, 8, 0, 0, 0, 0, 0, 0, 0, 255, 255, 255, 255, 2, 0, 0, 0, 5, 0, 0, 0, 5, 0, 0, 0,
+                                 2, 0, 0, 0, 0, 0, 0, 0, 3, 0, 0, 0, 0, 0, 0, 0, 3, 0, 0, 0, 'e', 'f', 'a', 'b', 'c', 'b', 'c', 'd'};
+
+/* A set in a buffer of so many bytes comes to this form, with the rest as it was; or is refused (form NULL), and all is as it was. */
+static void tidies(const uint8_t *set, size_t set_len, const uint8_t *form, size_t len, size_t room, uint32_t refused)
+{
+    uint8_t *to = (uint8_t *)malloc(room + 1);
+    memset(to, 0x5a, room + 1);
+    const worgesli_tidied r = worgesli_tidy(set, set_len, to, room);
+    EXPECT(r.refused == refused && r.len == (refused == 0 ? len : 0));
+    EXPECT(refused != 0 || memcmp(to, form, len) == 0);
+    for (size_t i = refused == 0 ? len : 0; i <= room; i++)
+        EXPECT(to[i] == 0x5a);
+    free(to);
+}
+
+static void tidy(void)
+{
+    static const uint8_t zeros[9] = {0}, absent[24] = {2, 0, 0, 0, 0, 0, 0, 0, 255, 255, 255, 255, 255, 255, 255, 255}, many[8] = {65};
+    for (size_t room = 0; room < 80; room++) {
+        tidies(untidy, sizeof untidy, tidied, sizeof tidied, room, room < sizeof tidied ? WORGESLI_REFUSED_TIDY_ROOM : 0);
+        tidies(tidied, sizeof tidied, tidied, sizeof tidied, room, room < sizeof tidied ? 29 : 0);
+        /* without an image: no slot, or none that is there */
+        tidies(zeros, 8, zeros, 8, room, room < 8 ? 29 : 0);
+        tidies(absent, 24, zeros, 8, room, room < 8 ? 29 : 0);
+        /* malformed, whatever the room */
+        tidies(untidy, sizeof untidy - 1, NULL, 0, room, WORGESLI_REFUSED_TIDY_SET);
+        tidies(zeros, 7, NULL, 0, room, 28);
+        tidies(zeros, 9, NULL, 0, room, 28);
+        tidies(many, 8, NULL, 0, room, 28);
+        tidies(NULL, 0, NULL, 0, room, 28);
+    }
+    EXPECT(worgesli_tidy_len(untidy, sizeof untidy).len == sizeof tidied && worgesli_tidy_len(untidy, sizeof untidy).refused == 0);
+    EXPECT(worgesli_tidy_len(absent, sizeof absent).len == 8 && worgesli_tidy_len(absent, sizeof absent).refused == 0);
+    EXPECT(worgesli_tidy_len(untidy, sizeof untidy - 1).refused == 28 && worgesli_tidy_len(untidy, sizeof untidy - 1).len == 0);
+    EXPECT(worgesli_tidy_len(NULL, 0).refused == 28 && worgesli_tidy(NULL, 0, NULL, 0).refused == 28);
+    EXPECT(worgesli_tidy(zeros, 8, NULL, 0).refused == 29 && worgesli_tidy(zeros, 8, NULL, 0).len == 0);
+}
+
 /* ---- bundles */
 
 static void known(void)
 {
     static const uint8_t empty[8] = {0}, one[] = {1, 0, 0, 0, 3, 0, 0, 0, 0, 0, 0, 0, 3, 0, 0, 0, 'a', 'b', 'c'};
-    static const uint8_t four[] = {4, 0, 0, 0, 5, 0, 0, 0, 0, 0, 0, 0, 255, 255, 255, 255, 0, 0, 0, 0, 2, 0, 0, 0,
+    static const uint8_t four[] = {4, 0, 0, 0, 5, 0, 0, 0, 0, 0, 0, 0, 255, 255, 255, 255, 2, 0, 0, 0, 2, 0, 0, 0,
                                    2, 0, 0, 0, 0, 0, 0, 0, 0, 0, 0, 0, 3, 0, 0, 0, 'a', 'b', 'c', 'd', 'e'};
     uint8_t to[64];
     EXPECT(worgesli_bundle(NULL, 0, to, sizeof to) == 8 && memcmp(to, empty, 8) == 0);
@@ -113,7 +162,7 @@ static void untouched(const worgesli_slot *slots, size_t n, size_t room, size_t 
 
 static void hostile(void)
 {
-    const size_t large = 0xFFFFFFFFu, most = SIZE_MAX;
+    const size_t large = 0xFFFFFFFEu, most = SIZE_MAX; /* as much data as there can be */
     worgesli_slot slots[65];
     for (size_t i = 0; i < 65; i++)
         slots[i] = slot("x", 1);
@@ -135,8 +184,38 @@ static void hostile(void)
     slots[1] = slot("x", large), untouched(slots, 2, 1000, 0);
     slots[1] = slot("x", large - 1), untouched(slots, 2, 1000, 24 + large);
     slots[0] = slot("x", 0), slots[1] = slot("x", large), untouched(slots, 2, 1000, 24 + large);
+    slots[1] = slot("x", large + 1), untouched(slots, 2, 1000, 0);
+    slots[0] = slot("x", large), slots[1] = slot("x", 0), untouched(slots, 2, 1000, 24 + large);
+    slots[1] = slot(NULL, 0), untouched(slots, 2, 1000, 24 + large);
+    slots[1] = slot("x", 1), untouched(slots, 2, 1000, 0);
     slots[0] = slot("x", large / 2 + 1), slots[1] = slots[0], untouched(slots, 2, 1000, 0);
-    slots[1] = slot("x", large / 2), untouched(slots, 2, 1000, 24 + large);
+    slots[1] = slot("x", large / 2), untouched(slots, 2, 1000, 0);
+    slots[1] = slot("x", large / 2 - 1), untouched(slots, 2, 1000, 24 + large);
+}
+
+/* The slots, which are parts of these bytes, as a set over all of them, in which they share what they share: its tidy form is their bundle without the absent
+ * ones at its end, and that of their bundle too. */
+static void tidy_is_bundle(const worgesli_slot *slots, size_t n, const uint8_t *bytes, size_t len)
+{
+    static uint8_t set[1024];
+    const size_t size = 8 + 8 * n + len;
+    size_t present = n;
+    while (present > 0 && slots[present - 1].bytes == NULL)
+        present--;
+    EXPECT(size <= sizeof set);
+    worgesli_put(set, n), worgesli_put(set + 4, len), memcpy(set + 8 + 8 * n, bytes, len);
+    for (size_t i = 0; i < n; i++) {
+        worgesli_put(set + 8 + 4 * i, slots[i].bytes == NULL ? 0xFFFFFFFFu : (size_t)((const uint8_t *)slots[i].bytes - bytes));
+        worgesli_put(set + 8 + 4 * n + 4 * i, slots[i].len);
+    }
+    const size_t due = worgesli_bundle(slots, present, NULL, 0), all = worgesli_bundle(slots, n, NULL, 0);
+    uint8_t *form = (uint8_t *)malloc(due), *bundle = (uint8_t *)malloc(all);
+    EXPECT(worgesli_bundle(slots, present, form, due) == due && worgesli_bundle(slots, n, bundle, all) == all);
+    EXPECT(worgesli_tidy_len(set, size).len == due && worgesli_tidy_len(bundle, all).len == due);
+    tidies(set, size, form, due, due, 0);
+    tidies(set, size, form, due, due - 1, WORGESLI_REFUSED_TIDY_ROOM);
+    tidies(bundle, all, form, due, due, 0);
+    free(form), free(bundle);
 }
 
 /* Slots at random, in a buffer of just their length: well formed, and each slot's bytes stand where the archive looks for them. */
@@ -167,6 +246,7 @@ static void random_slots(void)
             EXPECT(slots[i].bytes == NULL || worgesli_image_range(set, size, i, 0, slots[i].len + 1).refused == WORGESLI_REFUSED_IMAGE_END);
         }
         free(set);
+        tidy_is_bundle(slots, n, bytes, sizeof bytes);
     }
 }
 
@@ -175,6 +255,7 @@ int main(void)
     words();
     sheet();
     forecast();
+    tidy();
     known();
     hostile();
     random_slots();

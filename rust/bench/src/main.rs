@@ -1,9 +1,10 @@
 //! Prints what the host costs. `cargo run --release -p bench`
 //!
 //! `bench once bare|worgesli serial|usb MIB [32]` makes one fetch, of a device of 64 bits or 32, and prints nothing, for a count of its instructions.
-//! `bench utf8` prints the UTF-8 test alone.
+//! `bench utf8` prints the UTF-8 test alone, `bench tidy` the tidying of image sets.
 mod names;
 mod steps;
+mod tidy;
 
 use bench::{fetches, table, Bare, Files, Host, Keep, Setting, Worgesli};
 use device::{Division, Width};
@@ -61,6 +62,10 @@ fn main() -> std::io::Result<()> {
         names::print();
         return Ok(());
     }
+    if args == ["tidy"] {
+        tidy::print();
+        return Ok(());
+    }
     for (name, backend) in [("serial", Backend::Serial), ("USB", Backend::Usb)] {
         let setting = Setting::new(backend, 64 * MIB);
         let mut hosts = (Bare(Keep::Count), Worgesli(Keep::Count));
@@ -95,5 +100,6 @@ fn main() -> std::io::Result<()> {
     steps::print(Width::Bits64, 1024, 64);
     steps::print(Width::Bits32, 1260, 64);
     names::print();
+    tidy::print();
     Ok(())
 }

@@ -1,12 +1,15 @@
 //! Fetches the memory of a simulated device over a socket pair that divides its bytes at random, into files, goes on with a saved run in the middle of it, and
 //! compares the files with the device's memory, the region sheet with its list of regions, and what came with the forecast: once of a device of 64 bits, once
-//! of an older one of 32, without being told which it is. `demo FOLDER [SEED]`; the files go into a new folder in FOLDER.
+//! of an older one of 32, without being told which it is. Then two image sets with the same images, laid out otherwise, and their tidy form.
+//! `demo FOLDER [SEED]`; the files go into a new folder in FOLDER.
 use device::{Device, Memory, Region, Rng, Socket, Width};
 use std::error::Error;
 use std::path::{Path, PathBuf};
 use std::time::{Instant, SystemTime};
 use std::{fs, io};
-use worgesli::{read_manifest, Backend, Count, Entry, Folder, Forecast, Mode, Options, Outcome, Refusal, Sink, State, Unkept};
+use worgesli::{
+    read_manifest, Backend, Count, Entry, Folder, Forecast, ImageSet, Mode, Options, Outcome, Refusal, Sink, State, Unkept,
+};
 
 /// The first of run-1, run-2, … that is not there yet.
 fn fresh(folder: &Path) -> std::io::Result<PathBuf> {
@@ -140,6 +143,40 @@ fn main() -> Result<(), Box<dyn Error>> {
     for width in [Width::Bits64, Width::Bits32] {
         fetch(width, seed, &folder.join(format!("{}-bit", width.bits())))?;
     }
+    tidy_sets(&folder)
+}
+
+/// An image set as somebody assembled it: where each slot's image starts in the data, and its length.
+fn assembled(slots: &[(u32, u32)], data: &[u8]) -> Result<ImageSet, Refusal> {
+    let numbers = [slots.len() as u32, data.len() as u32].into_iter();
+    let numbers = numbers.chain(slots.iter().map(|s| s.0)).chain(slots.iter().map(|s| s.1));
+    ImageSet::from_bytes(numbers.flat_map(u32::to_le_bytes).chain(data.iter().copied()).collect())
+}
+
+/// Two image sets with the same images, with gaps and shared bytes, and their tidy forms: four files in the folder.
+fn tidy_sets(folder: &Path) -> Result<(), Box<dyn Error>> {
+    let none = (u32::MAX, 0);
+    let sets = [
+        assembled(&[(8, 6), none, (0, 7), (9, 0), (0, 4), none, none], b"sbl1mbn-loader")?,
+        assembled(&[(4, 6), none, (12, 7), (0, 0), (0, 4)], b"sbl1loader--sbl1mbn")?,
+    ];
+    let tidied = [sets[0].tidied()?, sets[1].tidied()?];
+    println!("two image sets with the same images, laid out otherwise, and what they are tidied to:");
+    for ((name, set), tidied) in ["first", "second"].into_iter().zip(&sets).zip(&tidied) {
+        let (from, to) = (format!("{name}.set"), format!("{name}.tidy"));
+        fs::write(folder.join(&from), set.bytes())?;
+        fs::write(folder.join(&to), tidied.bytes())?;
+        println!("    {from:<12} {:>4} bytes    {to:<12} {:>4} bytes", set.bytes().len(), tidied.bytes().len());
+    }
+    show_tidy(&sets, &tidied)
+}
+
+/// Says that the sets differ, and that tidied they do not; an error where that is not so.
+fn show_tidy(sets: &[ImageSet; 2], tidied: &[ImageSet; 2]) -> Result<(), Box<dyn Error>> {
+    if sets[0] == sets[1] || tidied[0] != tidied[1] {
+        return Err("the sets do not differ, or tidied they do".into());
+    }
+    println!("the sets differ, byte for byte; tidied they are the same");
     Ok(())
 }
 
@@ -209,5 +246,14 @@ mod tests {
         for other in [Forecast { regions: 0, ..f }, Forecast { bytes: 3, ..f }, Forecast { reads: 2, ..f }] {
             assert!(show_forecast(f, other).is_err());
         }
+    }
+
+    #[test]
+    fn sets_and_tidy_forms_are_compared() {
+        let [a, b] = ["a", "b"].map(|image| ImageSet::new(&[Some(image.into())]).unwrap());
+        let (a, b) = (|| a.clone(), || b.clone());
+        assert!(show_tidy(&[a(), b()], &[a(), a()]).is_ok());
+        assert!(show_tidy(&[a(), a()], &[a(), a()]).is_err());
+        assert!(show_tidy(&[a(), b()], &[a(), b()]).is_err());
     }
 }

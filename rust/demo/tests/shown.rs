@@ -1,4 +1,5 @@
-//! What the demonstration shows of either board: its region sheet, the forecast beside what came, and each region as it is in the device's memory.
+//! What the demonstration shows of either board: its region sheet, the forecast beside what came, and each region as it is in the device's memory. And two image
+//! sets with the same images, and their tidy form.
 use std::fs;
 use std::process::Command;
 
@@ -14,6 +15,8 @@ fn both_boards() {
     let folder = std::env::temp_dir().join(format!("worgesli-demo-{}", std::process::id()));
     let shown = Command::new(env!("CARGO_BIN_EXE_demo")).arg(&folder).arg("7").output().unwrap();
     let said = String::from_utf8(shown.stdout).unwrap();
+    let file = |name: &str| fs::read(folder.join("run-1").join(name)).unwrap_or_default();
+    let [first, second, tidy, other] = ["first.set", "second.set", "first.tidy", "second.tidy"].map(file);
     fs::remove_dir_all(&folder).unwrap();
     assert!(shown.status.success(), "{said}{}", String::from_utf8_lossy(&shown.stderr));
     let times = |line: &str| said.lines().filter(|l| *l == line).count();
@@ -46,4 +49,15 @@ fn both_boards() {
         boards += 1;
     }
     assert_eq!(boards, 2);
+    // "loader", none, "sbl1mbn", an empty image, "sbl1"
+    let numbers = [5, 17, 0, u32::MAX, 6, 13, 13, 6, 0, 7, 0, 4].map(u32::to_le_bytes).concat();
+    assert_eq!((&tidy, tidy == other), (&[&numbers[..], b"loadersbl1mbnsbl1"].concat(), true), "{said}");
+    assert_eq!((first.len(), second.len(), tidy.len()), (78, 67, 65));
+    for line in [
+        "    first.set      78 bytes    first.tidy     65 bytes",
+        "    second.set     67 bytes    second.tidy    65 bytes",
+        "the sets differ, byte for byte; tidied they are the same",
+    ] {
+        assert_eq!(times(line), 1, "{said}");
+    }
 }

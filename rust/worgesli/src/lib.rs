@@ -23,6 +23,7 @@ mod session;
 mod sha256;
 mod sink;
 mod table;
+mod tidy;
 mod tty;
 
 pub use bundle::{ImageSet, NameList, SLOTS};
@@ -40,6 +41,7 @@ pub use serial::Serial;
 pub use session::{Session, OUT, TABLE};
 pub use sink::{Count, Sink, Unkept};
 pub use table::{entry_at, forecast, next_selected, region_sheet, utf8, Entry, Forecast};
+pub use tidy::{tidy, tidy_into, tidy_len};
 
 /// The guide's code is compiled with the tests of the documentation.
 #[cfg(doctest)]

@@ -156,7 +156,7 @@ impl Refusal {
         }
     }
 
-    /// From 1 to 27.
+    /// From 1 to 29.
     pub fn number(self) -> u8 {
         self.0
     }
@@ -191,6 +191,8 @@ impl Refusal {
             25 => "the page has fewer than 57 bytes for each entry of the table",
             26 => "the name list of a forecast is malformed",
             27 => "the bytes or the memory reads of a forecast are above 2^64 - 1",
+            28 => "the image set that is to be tidied is malformed",
+            29 => "the tidy form is longer than its buffer, or has more than 2^32 - 2 data bytes",
             _ => "no such refusal",
         }
     }
@@ -218,8 +220,8 @@ mod tests {
     /// The words are those of the C header.
     #[test]
     fn words_of_the_header() {
-        let ours: Vec<String> = (1..=27).map(|n| format!("{n}\t{}", Refusal(n).words())).collect();
+        let ours: Vec<String> = (1..=29).map(|n| format!("{n}\t{}", Refusal(n).words())).collect();
         assert_eq!(tool("refusals").lines().collect::<Vec<_>>(), ours);
-        assert_eq!((Refusal(0).words(), Refusal(28).words()), ("no such refusal", "no such refusal"));
+        assert_eq!((Refusal(0).words(), Refusal(30).words()), ("no such refusal", "no such refusal"));
     }
 }

@@ -64,7 +64,7 @@ impl Options {
         Options { timeouts, ..self }
     }
 
-    /// Opens a session. Refused: 1 and 2, where there are more than 64 images or names, or 4 GiB of them.
+    /// Opens a session. Refused: 1 and 2, where there are more than 64 images or names, or more than 2^32 - 2 bytes of them.
     pub fn start(&self) -> Result<Driver, Refusal> {
         let (set, names) = self.bundles()?;
         Ok(Driver::with(Session::open(self.mode, self.command, self.backend), set, names, self.reply, self.timeouts))

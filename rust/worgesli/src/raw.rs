@@ -101,6 +101,14 @@ pub struct Forecast {
     pub refused: u32,
 }
 
+/// How long a tidy form is, or 0 and a refusal.
+#[repr(C)]
+#[derive(Clone, Copy, Debug, PartialEq, Eq)]
+pub struct Tidied {
+    pub len: usize,
+    pub refused: u32,
+}
+
 /// A part of an image set's bytes, or a refusal.
 #[repr(C)]
 #[derive(Clone, Copy, Debug, PartialEq, Eq)]
@@ -144,6 +152,7 @@ const _: () = {
     assert!(size_of::<Entry>() == 72);
     assert!(size_of::<Sheet>() == 16);
     assert!(size_of::<Forecast>() == 32);
+    assert!(size_of::<Tidied>() == 16);
     assert!(size_of::<Range>() == 24);
     assert!(size_of::<Packet>() == 64);
 };
@@ -210,6 +219,8 @@ unsafe extern "C" {
         names: *const u8,
         names_len: usize,
     ) -> Forecast;
+    pub fn worgesli_tidy(set: *const u8, set_len: usize, to: *mut u8, to_len: usize) -> Tidied;
+    pub fn worgesli_tidy_len(set: *const u8, set_len: usize) -> Tidied;
     pub fn worgesli_utf8(bytes: *const u8, bytes_len: usize) -> bool;
     pub fn worgesli_parse_packet(bytes: *const u8, bytes_len: usize) -> Packet;
     pub fn worgesli_reset(out: *mut u8, out_len: usize) -> u32;
@@ -311,6 +322,18 @@ pub fn region_sheet(table: &[u8], width: u64, page: &mut [u8]) -> Sheet {
 pub fn forecast_table(table: &[u8], width: u64, names: &[u8]) -> Forecast {
     // Safe: two live slices, which are only read.
     unsafe { worgesli_forecast_table(table.as_ptr(), table.len(), width, names.as_ptr(), names.len()) }
+}
+
+/// The tidy form of an image set in the first bytes of `to`; or 28, 29, and `to` as it was.
+pub fn tidy(set: &[u8], to: &mut [u8]) -> Tidied {
+    // Safe: a live slice, which is only read, and one that is lent to us alone.
+    unsafe { worgesli_tidy(set.as_ptr(), set.len(), to.as_mut_ptr(), to.len()) }
+}
+
+/// How long the tidy form of an image set is; or 28, 29.
+pub fn tidy_len(set: &[u8]) -> Tidied {
+    // Safe: a live slice, which is only read.
+    unsafe { worgesli_tidy_len(set.as_ptr(), set.len()) }
 }
 
 /// Whether bytes are UTF-8.

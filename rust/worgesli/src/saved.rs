@@ -62,6 +62,18 @@ fn bundles(set: &ImageSet, names: &NameList) -> [u8; DIGEST] {
     digest(&[set.bytes(), names.bytes()])
 }
 
+/// The same of a run that was saved by version 0.4.0 or before, in which empty images and names started at 0. None where that is the same digest.
+fn bundles_before(set: &ImageSet, names: &NameList) -> Option<[u8; DIGEST]> {
+    let (images, list) = (set.before(), names.before());
+    let same = set.bytes().starts_with(&images.0) && names.bytes().starts_with(&list.0);
+    (!same).then(|| digest(&[&images.0, images.1, &list.0, list.1]))
+}
+
+/// Whether a run was saved with this image set and these names, by this version or one before.
+fn saved_with(sum: &[u8], set: &ImageSet, names: &NameList) -> bool {
+    sum == bundles(set, names) || bundles_before(set, names).is_some_and(|before| sum == before)
+}
+
 fn put(to: &mut Vec<u8>, numbers: &[u64]) {
     numbers.iter().for_each(|n| to.extend(n.to_le_bytes()));
 }
@@ -207,7 +219,7 @@ impl Options {
         if !matches!(version, WITHOUT_WIDTH | VERSION) {
             return Err(RestoreError::Version(version));
         }
-        if from.take(DIGEST) != Some(&bundles(&set, &names)) {
+        if !from.take(DIGEST).is_some_and(|sum| saved_with(sum, &set, &names)) {
             return Err(RestoreError::OtherBundles);
         }
         let session = session(&mut from, version).and_then(Session::from_raw).ok_or(RestoreError::Damaged)?;
@@ -350,6 +362,52 @@ mod tests {
             }
             assert!(tried[3] > 0 && tried[4] > 1 && tried[5] > 50, "{tried:?}");
         }
+    }
+
+    /// A run of version 0.4.0, in which empty images and names started at 0, goes on; and only with the same images and names, given as they were.
+    #[test]
+    fn saved_with_empty_slots_at_0() {
+        let words = |words: &[u32]| words.iter().flat_map(|w| w.to_le_bytes()).collect::<Vec<u8>>();
+        // ["ab", empty, none, "c"], and ["n", ""], as that version wrote them
+        let set = [words(&[4, 3, 0, 0, u32::MAX, 2, 2, 0, 0, 1]), b"abc".to_vec()].concat();
+        let names = [words(&[2, 1, 0, 0, 1, 0]), b"n".to_vec()].concat();
+        let images = |empty: Option<&str>| [Some("ab"), empty, None, Some("c")].map(|image| image.map(Vec::from));
+        let options = Options::new(Backend::Usb, Mode::MemoryDebug).images(&images(Some(""))).names(["n", ""]);
+        let saved = options.start().unwrap().save();
+        let of = |set: &[u8], names: &[u8]| {
+            let mut to = saved[..saved.len() - DIGEST].to_vec();
+            to[SESSION - DIGEST..SESSION].copy_from_slice(&digest(&[set, names]));
+            let sum = digest(&[&to]);
+            to.extend(sum);
+            to
+        };
+        let (now_set, now_names) = options.bundles().unwrap();
+        let (now_set, now_names) = (now_set.bytes(), now_names.bytes());
+        assert!(set != now_set && names != now_names && of(now_set, now_names) == saved);
+        // it goes on, and is saved in the form of today
+        assert_eq!(options.restore(&of(&set, &names)).unwrap().save(), saved);
+        let other = |options: &Options, set: &[u8], names: &[u8]| {
+            assert_eq!(options.restore(&of(set, names)).unwrap_err(), RestoreError::OtherBundles);
+        };
+        // no version wrote one so and the other otherwise, nor an empty image elsewhere
+        other(&options, &set, now_names);
+        other(&options, now_set, &names);
+        for start in [1, 3] {
+            let mut elsewhere = set.clone();
+            elsewhere[12] = start;
+            other(&options, &elsewhere, &names);
+            other(&options, &elsewhere, now_names);
+        }
+        // an empty image is not absent, and an empty name is a name
+        other(&options.clone().images(&images(None)), &set, &names);
+        other(&options.clone().names(["n"]), &set, &names);
+        // bundles that were made elsewhere have one form, that of their bytes
+        let bundle = |set: &[u8]| options.clone().image_set(ImageSet::from_bytes(set.to_vec()).unwrap());
+        assert!(bundle(&set).restore(&of(&set, &names)).is_ok() && bundle(&set).restore(&of(&set, now_names)).is_ok());
+        assert!(bundle(now_set).restore(&of(now_set, &names)).is_ok() && bundle(now_set).restore(&saved).is_ok());
+        other(&bundle(&set), now_set, &names);
+        other(&bundle(now_set), &set, &names);
+        other(&bundle(now_set), &set, now_names);
     }
 
     /// Numbers that no run has are refused or borne, also by a resync: they make no panic.

@@ -1,5 +1,5 @@
 //! examples/fetch.c, compiled as README.md says, fetches from the simulated device; and again under the sanitizers, with system
-//! calls that fail as they may (tests/c/faults.c). The header's bundles beside the crate's.
+//! calls that fail as they may (tests/c/faults.c). So does examples/tidy.c with image sets. The header's bundles beside the crate's.
 use device::{
     done_resp, execute_resp, hello, not_run, padded, read_data, reset_resp, serve_until, Device, Memory, Pty, Region, Rng, Turn,
     Width,
@@ -39,12 +39,11 @@ fn compiled(line: &str) {
     assert!(made.stderr.is_empty(), "{}", String::from_utf8_lossy(&made.stderr));
 }
 
-/// The line of README.md that compiles the example, and where it puts it.
-fn line_of_the_readme() -> (String, PathBuf) {
-    let readme = fs::read_to_string(root().join("README.md")).unwrap();
-    let lines: Vec<&str> =
-        readme.lines().map(str::trim).filter(|l| l.starts_with("cc ") && l.contains("examples/fetch.c")).collect();
-    assert_eq!(lines.len(), 1, "README.md has one line that compiles examples/fetch.c");
+/// The line of README.md that compiles an example, and where it puts it.
+fn line_of_the_readme(name: &str) -> (String, PathBuf) {
+    let (readme, source) = (fs::read_to_string(root().join("README.md")).unwrap(), format!("examples/{name}.c"));
+    let lines: Vec<&str> = readme.lines().map(str::trim).filter(|l| l.starts_with("cc ") && l.contains(&source)).collect();
+    assert_eq!(lines.len(), 1, "README.md has one line that compiles {source}");
     let to = lines[0].rsplit_once(" -o ").unwrap().1;
     (lines[0].into(), root().join(to))
 }
@@ -59,44 +58,75 @@ enum Build {
 
 const SANITIZED: &str = "-g -fsanitize=address,undefined -fno-sanitize-recover=all";
 
-/// The example; none where it cannot be compiled for want of a tool.
-fn example(build: Build) -> Option<&'static Path> {
-    static PLAIN: OnceLock<Option<PathBuf>> = OnceLock::new();
-    static CHECKED: OnceLock<Option<PathBuf>> = OnceLock::new();
-    let plain = PLAIN.get_or_init(|| {
+/// What tests/c/faults.c has.
+const WRAPPED: [&str; 14] = [
+    "read",
+    "write",
+    "poll",
+    "fsync",
+    "open",
+    "openat",
+    "linkat",
+    "unlinkat",
+    "renameat",
+    "fstatat",
+    "fstatvfs",
+    "malloc",
+    "realloc",
+    "worgesli_forecast_table",
+];
+
+/// A program of examples/, each build made once; none where it cannot be compiled for want of a tool.
+struct Example {
+    name: &'static str,
+    plain: OnceLock<Option<PathBuf>>,
+    checked: OnceLock<Option<PathBuf>>,
+}
+
+static FETCH: Example = Example::new("fetch");
+static TIDY: Example = Example::new("tidy");
+
+impl Example {
+    const fn new(name: &'static str) -> Example {
+        Example { name, plain: OnceLock::new(), checked: OnceLock::new() }
+    }
+
+    fn built(&self, build: Build) -> Option<&Path> {
+        match build {
+            Build::Plain => self.plain.get_or_init(|| self.plain()).as_deref(),
+            Build::Checked => self.checked.get_or_init(|| self.checked()).as_deref(),
+        }
+    }
+
+    fn plain(&self) -> Option<PathBuf> {
         if !shell("command -v cc").status.success() {
-            not_run("no C compiler is on this machine", "examples/fetch.c");
+            not_run("no C compiler is on this machine", &format!("examples/{}.c", self.name));
             return None;
         }
-        let (line, to) = line_of_the_readme();
+        let (line, to) = line_of_the_readme(self.name);
         compiled(&line);
         Some(to)
-    });
-    let checked = CHECKED.get_or_init(|| {
-        let plain = plain.as_ref()?;
-        if !shell(&format!(
-            "echo 'int main(void) {{ return 0; }}' | cc {SANITIZED} -x c - -o {0}.tried && {0}.tried",
-            plain.display()
-        ))
-        .status
-        .success()
-        {
-            not_run("the C compiler has no sanitizers", "examples/fetch.c with them and with faults");
+    }
+
+    fn checked(&self) -> Option<PathBuf> {
+        let plain = self.built(Build::Plain)?.display();
+        let tried = format!("echo 'int main(void) {{ return 0; }}' | cc {SANITIZED} -x c - -o {plain}.tried && {plain}.tried");
+        if !shell(&tried).status.success() {
+            not_run("the C compiler has no sanitizers", &format!("examples/{}.c with them and with faults", self.name));
             return None;
         }
-        let calls = ["read", "write", "poll", "fsync", "openat", "renameat", "fstatat", "fstatvfs", "worgesli_forecast_table"];
-        let wrapped = calls.map(|c| format!(" -Wl,--wrap={c}")).concat();
-        let (line, to) = line_of_the_readme();
-        let checked = to.with_file_name("fetch-checked");
-        let line = line.replace("examples/fetch.c", &format!("-U_FORTIFY_SOURCE {SANITIZED} examples/fetch.c tests/c/faults.c"));
+        let wrapped = WRAPPED.map(|c| format!(" -Wl,--wrap={c}")).concat();
+        let (line, to) = line_of_the_readme(self.name);
+        let (checked, source) = (to.with_file_name(format!("{}-checked", self.name)), format!("examples/{}.c", self.name));
+        let line = line.replace(&source, &format!("-U_FORTIFY_SOURCE {SANITIZED} {source} tests/c/faults.c"));
         let line = line.rsplit_once(" -o ").unwrap().0;
         compiled(&format!("{line}{wrapped} -o {}", checked.display()));
         Some(checked)
-    });
-    match build {
-        Build::Plain => plain.as_deref(),
-        Build::Checked => checked.as_deref(),
     }
+}
+
+fn example(build: Build) -> Option<&'static Path> {
+    FETCH.built(build)
 }
 
 fn builds() -> Vec<Build> {
@@ -127,9 +157,13 @@ impl Temporary {
     }
 
     fn files(&self) -> BTreeMap<String, Vec<u8>> {
-        let Ok(list) = fs::read_dir(self.dump()) else { return BTreeMap::new() };
-        list.map(|e| e.unwrap()).map(|e| (e.file_name().into_string().unwrap(), fs::read(e.path()).unwrap())).collect()
+        files_of(&self.dump())
     }
+}
+
+fn files_of(folder: &Path) -> BTreeMap<String, Vec<u8>> {
+    let Ok(list) = fs::read_dir(folder) else { return BTreeMap::new() };
+    list.map(|e| e.unwrap()).map(|e| (e.file_name().into_string().unwrap(), fs::read(e.path()).unwrap())).collect()
 }
 
 impl Drop for Temporary {
@@ -852,7 +886,12 @@ fn an_inherited_descriptor() {
 
 // ---- bundles
 
-/// The header's bundles are those of this crate, byte for byte.
+/// The slots up to the last that is not absent.
+fn present<T>(slots: &[Option<T>]) -> &[Option<T>] {
+    &slots[..slots.iter().rposition(Option::is_some).map_or(0, |i| i + 1)]
+}
+
+/// The header's bundles are those of this crate, byte for byte; and so is what each is tidied to, which has no absent slot at its end.
 #[test]
 fn bundles() {
     let Some(plain) = example(Build::Plain) else { return };
@@ -878,9 +917,10 @@ fn bundles() {
             input.extend(slot.as_ref().map_or(u32::MAX, |s| s.len() as u32).to_le_bytes());
             input.extend(slot.iter().flatten());
         }
-        let set = ImageSet::new(&slots).unwrap();
-        expected.extend((set.bytes().len() as u32).to_le_bytes());
-        expected.extend(set.bytes());
+        for set in [ImageSet::new(&slots), ImageSet::new(present(&slots))].map(Result::unwrap) {
+            expected.extend((set.bytes().len() as u32).to_le_bytes());
+            expected.extend(set.bytes());
+        }
     }
     let mut child = Command::new(program).stdin(Stdio::piped()).stdout(Stdio::piped()).spawn().unwrap();
     let mut stdin = child.stdin.take().unwrap();
@@ -913,5 +953,342 @@ fn without_standard_descriptors() {
         assert_eq!(device.join().unwrap().wrong(), None);
         let (file, len) = if code == 0 { ("TAKE.BIN", 50_000) } else { ("TAKE.BIN.part", 30_000) };
         assert!(fs::read(temporary.dump().join(file)).unwrap() == memory.bytes(0, len), "{file}");
+    }
+}
+
+// ---- tidy sets
+
+const SET_WORDS: &str = "the image set that is to be tidied is malformed";
+const ROOM_WORDS: &str = "the tidy form is longer than its buffer, or has more than 2^32 - 2 data bytes";
+
+/// An image set of slots, each a start and a length.
+fn set_of(slots: &[(u32, u32)], data: &[u8]) -> Vec<u8> {
+    let head = [slots.len() as u32, data.len() as u32];
+    let numbers = head.into_iter().chain(slots.iter().map(|s| s.0)).chain(slots.iter().map(|s| s.1));
+    numbers.flat_map(u32::to_le_bytes).chain(data.iter().copied()).collect()
+}
+
+/// "ef", none, "abc", an empty image, "bcd", none, none.
+fn untidy() -> Vec<u8> {
+    let none = (u32::MAX, 0);
+    set_of(&[(5, 2), none, (0, 3), (3, 0), (1, 3), none, none], b"abcd-ef")
+}
+
+fn tidied() -> Vec<u8> {
+    set_of(&[(0, 2), (u32::MAX, 0), (2, 3), (5, 0), (5, 3)], b"efabcbcd")
+}
+
+/// A set at random, and its tidy form as this crate writes it.
+fn random_set(rng: &mut Rng) -> (Vec<u8>, Vec<u8>) {
+    let most = [1, 10, 1000, 300_000][rng.below(4) as usize];
+    let mut data = vec![0; rng.below(most) as usize];
+    rng.fill(&mut data);
+    let mut range = || {
+        let start = rng.below(data.len() as u64 + 1);
+        let len = if rng.chance(200) { 0 } else { rng.below(data.len() as u64 - start + 1) };
+        (!rng.chance(250)).then_some((start as u32, len as u32))
+    };
+    let slots: Vec<_> = (0..data.len() % 65).map(|_| range()).collect();
+    let images: Vec<_> = slots.iter().map(|s| s.map(|(start, len)| data[start as usize..][..len as usize].to_vec())).collect();
+    let slots: Vec<_> = slots.into_iter().map(|s| s.unwrap_or((u32::MAX, 0))).collect();
+    (set_of(&slots, &data), ImageSet::new(present(&images)).unwrap().bytes().to_vec())
+}
+
+/// Each build of the program.
+fn tidies() -> Vec<(Build, &'static Path)> {
+    [Build::Plain, Build::Checked].into_iter().filter_map(|b| Some((b, TIDY.built(b)?))).collect()
+}
+
+/// A folder with the file `set`.
+fn folder_with(set: &[u8]) -> Temporary {
+    let temporary = Temporary::new();
+    fs::write(temporary.0.join("set"), set).unwrap();
+    temporary
+}
+
+/// A call in the folder.
+fn tidy(program: &Path, folder: &Temporary, from: &str, to: &str) -> Command {
+    let mut call = Command::new(program);
+    call.args([from, to]).current_dir(&folder.0).stdin(Stdio::null());
+    call
+}
+
+/// From `set` to `tidy`, with a shell's words around it.
+fn tidy_under(program: &Path, folder: &Temporary, before: &str, behind: &str) -> Command {
+    let mut call = Command::new("sh");
+    call.args(["-c", &format!("{before} exec \"$0\" set tidy {behind}")])
+        .arg(program)
+        .current_dir(&folder.0)
+        .stdin(Stdio::null());
+    call
+}
+
+/// It ended with an error that says this, and no file came, went or changed.
+fn not_tidied(call: &mut Command, folder: &Temporary, why: &str) {
+    let before = files_of(&folder.0);
+    let said = Said::by(call);
+    assert_eq!((said.status, said.out.as_str()), (Some(1), ""), "{why}: {said:?}");
+    assert!(said.error.contains(why) && said.error.contains("\ntidy: not written: "), "{why}: {said:?}");
+    assert!(files_of(&folder.0) == before, "{why}: {:?}", files_of(&folder.0).keys());
+}
+
+/// It made the file, of these bytes, and no other.
+fn made(call: &mut Command, folder: &Temporary, form: &[u8]) {
+    let mut due = files_of(&folder.0);
+    let said = Said::by(call);
+    let line = format!("tidy: {} bytes\n", form.len());
+    assert_eq!((said.status, said.out.as_str(), said.error.as_str()), (Some(0), line.as_str(), ""));
+    due.insert("tidy".into(), form.to_vec());
+    assert!(files_of(&folder.0) == due, "{:?}", files_of(&folder.0).keys());
+}
+
+#[test]
+fn sets_are_tidied() {
+    for (build, program) in tidies() {
+        let folder = folder_with(&untidy());
+        made(&mut tidy(program, &folder, "set", "tidy"), &folder, &tidied());
+        // what is there is not made again, and from what is tidy comes the same
+        not_tidied(&mut tidy(program, &folder, "set", "tidy"), &folder, "tidy: tidy: File exists\n");
+        fs::rename(folder.0.join("tidy"), folder.0.join("set")).unwrap();
+        made(&mut tidy(program, &folder, "set", "tidy"), &folder, &tidied());
+        let mut rng = Rng::new(21);
+        for seed in 0..40u32 {
+            let (set, form) = random_set(&mut rng);
+            let folder = folder_with(&set);
+            let mut call = tidy(program, &folder, "set", "tidy");
+            made(call.envs((build == Build::Checked && seed >= 5).then(|| ("FAULTS", seed.to_string()))), &folder, &form);
+        }
+    }
+}
+
+/// In another folder, by a whole path, and as many may read it as the caller's mask says.
+#[test]
+fn tidied_elsewhere() {
+    for (_, program) in tidies() {
+        let folder = folder_with(&untidy());
+        fs::create_dir(folder.dump()).unwrap();
+        let whole = folder.0.join("whole");
+        for to in ["dump/tidy", "./dump//again", whole.to_str().unwrap()] {
+            let said = Said::by(&mut tidy(program, &folder, "set", to));
+            assert_eq!((said.status, said.out), (Some(0), format!("{to}: 56 bytes\n")), "{}", said.error);
+            assert!(fs::read(folder.0.join(to)).unwrap() == tidied());
+        }
+        assert_eq!(folder.files().into_keys().collect::<Vec<_>>(), ["again", "tidy"]);
+        for (mask, mode) in [("022", 0o644), ("077", 0o600)] {
+            assert_eq!(Said::by(&mut tidy_under(program, &folder, &format!("umask {mask};"), "")).status, Some(0));
+            assert_eq!(fs::metadata(folder.0.join("tidy")).unwrap().permissions().mode() & 0o777, mode);
+            fs::remove_file(folder.0.join("tidy")).unwrap();
+        }
+        for (to, why) in
+            [("nowhere/tidy", "No such file"), ("set/tidy", "Not a directory"), ("dump/", "No such file"), ("", "No such file")]
+        {
+            let said = Said::by(&mut tidy(program, &folder, "set", to));
+            assert!(said.status == Some(1) && said.out.is_empty() && said.error.contains(why), "{to}: {said:?}");
+        }
+        assert_eq!(folder.files().len(), 2);
+    }
+}
+
+/// From a pipe, in pieces; one that goes on behind the set is not heard out.
+#[test]
+fn tidied_from_a_pipe() {
+    for (_, program) in tidies() {
+        let mut data = vec![0; 250_000];
+        Rng::new(22).fill(&mut data);
+        let (set, form) = (set_of(&[(7, 199_999)], &data), set_of(&[(0, 199_999)], &data[7..200_006]));
+        for goes_on in [false, true] {
+            let folder = folder_with(&[]);
+            let mut call = tidy(program, &folder, "/dev/stdin", "tidy");
+            let mut child = started(call.stdin(Stdio::piped()));
+            let (mut stdin, bytes) = (child.stdin.take().unwrap(), set.clone());
+            let writer = thread::spawn(move || {
+                bytes.chunks(10_007).try_for_each(|piece| stdin.write_all(piece))?;
+                if goes_on {
+                    std::iter::repeat([0; 4096]).try_for_each(|more| stdin.write_all(&more))?;
+                }
+                std::io::Result::Ok(())
+            });
+            let said = Said::of(child);
+            assert_eq!((writer.join().unwrap().is_ok(), said.status), (!goes_on, Some(i32::from(goes_on))), "{said:?}");
+            let files = files_of(&folder.0);
+            assert_eq!(files.get("tidy"), (!goes_on).then_some(&form));
+            assert!(goes_on == said.error.contains(SET_WORDS) && files.len() == 2 - usize::from(goes_on), "{said:?}");
+        }
+    }
+}
+
+/// What is no image set, and what is none that can be tidied.
+#[test]
+fn sets_that_are_refused() {
+    for (_, program) in tidies() {
+        let (set, promise) = (untidy(), [&[1, 0, 0, 0, 255, 255, 255, 255][..], &[0; 300]].concat());
+        let longer = [&set[..], &[0]].concat();
+        for bytes in
+            [&[][..], &[0; 7], &[0; 9], &set[..set.len() - 1], &longer, &[65, 0, 0, 0, 0, 0, 0, 0], &promise, &[255; 100_000]]
+        {
+            let folder = folder_with(bytes);
+            not_tidied(&mut tidy(program, &folder, "set", "tidy"), &folder, &format!("tidy: set: {SET_WORDS}\n"));
+        }
+        // 64 slots that share 2^26 bytes; with one byte in two of them less, it would be long, and whole
+        let folder = folder_with(&set_of(&[(0, 1 << 26); 64], &[]));
+        let file = File::options().write(true).open(folder.0.join("set")).unwrap();
+        file.set_len(8 + 8 * 64 + (1 << 26)).unwrap();
+        std::os::unix::fs::FileExt::write_all_at(&file, &(1u32 << 26).to_le_bytes(), 4).unwrap();
+        let said = Said::by(&mut tidy(program, &folder, "set", "tidy"));
+        assert_eq!((said.status, said.out.as_str()), (Some(1), ""));
+        assert_eq!(said.error, format!("tidy: set: {ROOM_WORDS}\ntidy: not written: tidy\n"));
+        assert_eq!(fs::read_dir(&folder.0).unwrap().count(), 1);
+        let folder = folder_with(&set);
+        for (from, why) in
+            [(".", "Is a directory"), ("no-set", "No such file"), ("/dev/zero", SET_WORDS), ("/dev/null", SET_WORDS)]
+        {
+            not_tidied(&mut tidy(program, &folder, from, "tidy"), &folder, why);
+        }
+    }
+}
+
+/// Nothing that is there is touched: the file itself, a folder, a link that leads nowhere, the set, and a part, whosesoever it is.
+#[test]
+fn nothing_is_tidied_over() {
+    for (_, program) in tidies() {
+        let folder = folder_with(&untidy());
+        fs::create_dir(folder.dump()).unwrap();
+        std::os::unix::fs::symlink("nowhere", folder.0.join("link")).unwrap();
+        fs::write(folder.0.join("there"), "before").unwrap();
+        fs::write(folder.0.join("begun.part"), "a part").unwrap();
+        let names = || {
+            let entries = fs::read_dir(&folder.0).unwrap().map(|e| e.unwrap());
+            entries.map(|e| (e.file_name().into_string().unwrap(), e.file_type().unwrap())).collect::<BTreeMap<_, _>>()
+        };
+        let before = names();
+        for (to, why) in [
+            ("there", "tidy: there: File exists"),
+            ("dump", "tidy: dump: File exists"),
+            ("link", "tidy: link: File exists"),
+            ("set", "tidy: set: File exists"),
+            (".", "tidy: .: File exists"),
+            ("begun", "tidy: begun.part: File exists"),
+        ] {
+            let said = Said::by(&mut tidy(program, &folder, "set", to));
+            assert!(said.status == Some(1) && said.out.is_empty() && said.error.starts_with(why), "{to}: {said:?}");
+            assert_eq!(names(), before);
+        }
+        assert!(fs::read(folder.0.join("set")).unwrap() == untidy() && folder.files().is_empty());
+        assert_eq!(["there", "begun.part"].map(|f| fs::read_to_string(folder.0.join(f)).unwrap()), ["before", "a part"]);
+    }
+}
+
+/// Many at a time: one makes the file, and what another has begun is not taken from it.
+#[test]
+fn tidied_side_by_side() {
+    let Some(program) = TIDY.built(Build::Plain) else { return };
+    let set = set_of(&[(0, 200_000); 20], &vec![7; 200_000]);
+    let folder = folder_with(&set);
+    let said: Vec<Said> = thread::scope(|scope| {
+        let calls: Vec<_> = (0..8).map(|_| scope.spawn(|| Said::by(&mut tidy(program, &folder, "set", "tidy")))).collect();
+        calls.into_iter().map(|c| c.join().unwrap()).collect()
+    });
+    assert_eq!(said.iter().filter(|s| s.status == Some(0)).count(), 1, "{said:?}");
+    assert!(said.iter().all(|s| s.status == Some(0) || s.error.contains(": File exists\n")), "{said:?}");
+    let files = files_of(&folder.0);
+    assert!(files.len() == 2 && files["tidy"] == ImageSet::new(&vec![Some(vec![7; 200_000]); 20]).unwrap().bytes());
+}
+
+/// Each call that can fail fails, and each after it: nothing is left behind, but where that cannot be removed, which is told.
+#[test]
+fn tidy_calls_that_fail() {
+    let Some(program) = TIDY.built(Build::Checked) else { return };
+    let set = set_of(&[(0, 100_000), (50_000, 1)], &vec![3; 100_000]);
+    let form = ImageSet::new(&[Some(vec![3; 100_000]), Some(vec![3])]).unwrap();
+    for (name, error, says, calls) in [
+        // a null device, the folder, the set
+        ("open", 13, "Permission denied", 3),
+        // the first numbers, what there is room for, and the rest up to the end
+        ("read", 5, "Input/output error", 4),
+        // the path, the set, the form
+        ("malloc", 12, "Cannot allocate memory", 3),
+        ("realloc", 12, "Cannot allocate memory", 1),
+        ("openat", 28, "No space left on device", 1),
+        ("write", 28, "No space left on device", 1),
+        ("write", 5, "Input/output error", 1),
+        // the file, the folder
+        ("fsync", 5, "Input/output error", 2),
+        ("linkat", 1, "Operation not permitted", 1),
+    ] {
+        for n in 1..=calls {
+            let folder = folder_with(&set);
+            let mut call = tidy(program, &folder, "set", "tidy");
+            not_tidied(call.env("FAIL", format!("{name}:{n}:{error}")), &folder, says);
+        }
+        let folder = folder_with(&set);
+        let mut call = tidy(program, &folder, "set", "tidy");
+        made(call.env("FAIL", format!("{name}:{}:{error}", calls + 1)), &folder, form.bytes());
+    }
+    let folder = folder_with(&set);
+    let said = Said::by(tidy(program, &folder, "set", "tidy").env("FAIL", "unlinkat:1:5"));
+    assert_eq!((said.status, said.out.as_str()), (Some(1), ""));
+    for name in ["tidy", "tidy.part"] {
+        assert!(said.error.contains(&format!("tidy: it could NOT be removed: {name}: Input/output error\n")), "{said:?}");
+        assert!(files_of(&folder.0)[name] == form.bytes());
+    }
+}
+
+/// A disk that is full: a limit on the length of files.
+#[test]
+fn tidied_to_a_full_disk() {
+    let Some(program) = TIDY.built(Build::Plain) else { return };
+    let folder = folder_with(&set_of(&[(0, 3000); 2], &[7; 3000]));
+    not_tidied(&mut tidy_under(program, &folder, "ulimit -f 8;", ""), &folder, "tidy: tidy.part: File too large\n");
+}
+
+/// More than there is memory for, in KiB: a set, and the form of a smaller one. What a file only says it has takes none.
+#[test]
+fn sets_above_the_memory() {
+    let Some(program) = TIDY.built(Build::Plain) else { return };
+    let limit = "ulimit -v 100000;";
+    let folder = folder_with(&set_of(&[(0, 4); 64], b"abcd"));
+    assert_eq!(Said::by(&mut tidy_under(program, &folder, limit, "")).status, Some(0));
+    for (head, len, why) in [
+        (set_of(&[(0, 1 << 21); 64], &[]), 1 << 21, "tidy: tidy: Cannot allocate memory\n"),
+        (set_of(&[(0, 1)], &[]), 1 << 30, "tidy: set: Cannot allocate memory\n"),
+    ] {
+        let folder = folder_with(&head);
+        let file = File::options().write(true).open(folder.0.join("set")).unwrap();
+        file.set_len(head.len() as u64 + len).unwrap();
+        std::os::unix::fs::FileExt::write_all_at(&file, &(len as u32).to_le_bytes(), 4).unwrap();
+        let said = Said::by(&mut tidy_under(program, &folder, limit, ""));
+        assert!((said.status, said.out.as_str()) == (Some(1), "") && said.error.starts_with(why), "{said:?}");
+        assert_eq!(fs::read_dir(&folder.0).unwrap().count(), 1);
+    }
+    let folder = folder_with(&[&[1, 0, 0, 0, 255, 255, 255, 255][..], &[0; 300]].concat());
+    not_tidied(&mut tidy_under(program, &folder, limit, ""), &folder, SET_WORDS);
+}
+
+#[test]
+fn wrong_calls_of_tidy() {
+    for (_, program) in tidies() {
+        let folder = folder_with(&untidy());
+        for args in [&[][..], &["set"], &["set", "tidy", "more"], &["-x", "set", "tidy"], &["-h"]] {
+            let call = Command::new(program).args(args).current_dir(&folder.0).output().unwrap();
+            assert_eq!((call.status.code(), call.stdout.len()), (Some(2), 0), "{args:?}");
+            assert!(String::from_utf8(call.stderr).unwrap().contains("usage: tidy SET TIDY\n"));
+        }
+        assert_eq!(files_of(&folder.0).len(), 1);
+    }
+}
+
+/// With standard output and error closed, what is said to people reaches no file, not even one that cannot be removed again.
+#[test]
+fn tidied_without_standard_descriptors() {
+    for (build, program) in tidies() {
+        for closed in [">&- 2>&-", "<&- >&- 2>&-"] {
+            let folder = folder_with(&untidy());
+            let mut call = tidy_under(program, &folder, "", closed);
+            let fails = build == Build::Checked;
+            let status = call.envs(fails.then_some(("FAIL", "unlinkat:1:5"))).status().unwrap();
+            assert_eq!(status.code(), Some(i32::from(fails)));
+            let files = files_of(&folder.0);
+            assert!(files.len() == 2 + usize::from(fails) && files["tidy"] == tidied(), "{files:?}");
+        }
     }
 }

@@ -33,12 +33,12 @@ fn step(
     r
 }
 
-fn word(bytes: &[u8], at: usize) -> u64 {
+pub fn word(bytes: &[u8], at: usize) -> u64 {
     u32::from_le_bytes(bytes[at..at + 4].try_into().unwrap()).into()
 }
 
 /// Document 01's paragraph on bundles.
-fn well_formed(b: &[u8], absent_allowed: bool) -> bool {
+pub fn well_formed(b: &[u8], absent_allowed: bool) -> bool {
     if b.len() < 8 {
         return false;
     }
@@ -305,6 +305,9 @@ fn null_with_length_0() {
         assert_eq!(raw::worgesli_image_range(n, 0, 0, 0, 0), raw::Range { start: 0, len: 0, refused: 1 });
         assert!([32, 64, 33].into_iter().all(|width| raw::worgesli_entry_at(n, 0, width, 0).there == 0));
         assert!([32, 64, 33].into_iter().all(|width| raw::worgesli_next_selected(n, 0, width, 0, n, 0, 0) == 0));
+        let tidied = [raw::worgesli_tidy(n, 0, m, 0), raw::worgesli_tidy(e, 8, m, 0), raw::worgesli_tidy(n, 0, o, 48)];
+        assert_eq!(tidied.map(|t| (t.len, t.refused)), [(0, 28), (0, 29), (0, 28)]);
+        assert_eq!(raw::worgesli_tidy_len(n, 0), raw::Tidied { len: 0, refused: 28 });
         assert!(raw::worgesli_utf8(n, 0));
         assert_eq!(raw::worgesli_parse_packet(n, 0).refused, 9);
         assert_eq!(raw::worgesli_reset(m, 0), 3);

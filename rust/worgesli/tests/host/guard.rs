@@ -86,6 +86,42 @@ impl Drop for Guarded {
     }
 }
 
+/// The first bytes of so many, the others of which no one may touch: they are addresses alone, and take no memory.
+pub struct Beginning {
+    map: *mut u8,
+    pages: usize,
+    at: usize,
+    len: usize,
+}
+
+impl Beginning {
+    pub fn new(bytes: &[u8], len: usize) -> Beginning {
+        assert!(bytes.len() <= PAGE);
+        let pages = PAGE + len.div_ceil(PAGE) * PAGE;
+        // Safe: a new map, of which the first page is made writable and gets the bytes, up to its end.
+        let (map, at) = unsafe {
+            let map = mmap(null_mut(), pages, NONE, PRIVATE_ANONYMOUS, -1, 0);
+            assert!(map as isize != -1);
+            assert_eq!(mprotect(map, PAGE, READ_WRITE), 0);
+            (map as *mut u8, PAGE - bytes.len())
+        };
+        // Safe: within that page.
+        unsafe { std::slice::from_raw_parts_mut(map.add(at), bytes.len()) }.copy_from_slice(bytes);
+        Beginning { map, pages, at, len }
+    }
+
+    pub fn parts(&self) -> (*const u8, usize) {
+        (self.map.wrapping_add(self.at), self.len)
+    }
+}
+
+impl Drop for Beginning {
+    fn drop(&mut self) {
+        // Safe: our own map, of which there are pointers alone.
+        unsafe { munmap(self.map as *mut c_void, self.pages) };
+    }
+}
+
 /// The guard bites: a child that reads one byte behind, or before, is killed.
 #[test]
 fn stray_bytes_are_seen() {
@@ -96,12 +132,18 @@ fn stray_bytes_are_seen() {
         // Not safe: that is the point.
         unsafe { std::ptr::read_volatile(g.as_ptr().offset(past)) }
     };
+    let hidden = || {
+        let (at, len) = Beginning::new(&[7; 100], 1 << 33).parts();
+        // Not safe: the same.
+        (unsafe { std::ptr::read_volatile(at.add(99)) }, unsafe { std::ptr::read_volatile(at.add(len - 1)) })
+    };
     match std::env::var(NAME).as_deref() {
+        Ok("hidden") => assert_eq!(hidden().0, 7),
         Ok("behind") => assert_eq!(stray(Side::Behind, 100), 0),
         Ok("before") => assert_eq!(stray(Side::Before, -1), 0),
         Ok("within") => assert_eq!(stray(Side::Behind, 99), 7),
         _ => {
-            for (what, signal) in [("behind", Some(11)), ("before", Some(11)), ("within", None)] {
+            for (what, signal) in [("behind", Some(11)), ("before", Some(11)), ("hidden", Some(11)), ("within", None)] {
                 let exe = std::env::current_exe().unwrap();
                 let args = ["--exact", "guard::stray_bytes_are_seen"];
                 let run = std::process::Command::new(exe).args(args).env(NAME, what).output().unwrap();

@@ -15,6 +15,7 @@ mod saved;
 mod sheet;
 mod sheet_files;
 mod steps;
+mod tidy;
 mod told;
 mod widths;
 mod world;
