@@ -18,7 +18,7 @@ sets-behind xs ys d at b e = sets-append xs ys d at ∙ rw e refl
 
 -- a store of a run of n, and one more
 pub sets-more : (xs : List ℕ) (y : ℕ) (d : List ℕ) (at n : ℕ) → length xs ≡ n → sets d at (xs ++ y ∷ []) ≡ set (sets d at xs) (at + n) y
-sets-more xs y d at n e = sets-append xs (y ∷ []) d at ∙ rw e refl
+sets-more xs y d at n e = sets-behind xs (y ∷ []) d at (at + n) (ap (λ (k : ℕ). at + k) e)
 
 -- of the first j of a run, and one more
 pub sets-take-more : (xs d : List ℕ) (at j : ℕ) → j < length xs → sets d at (take (suc j) xs) ≡ set (sets d at (take j xs)) (at + j) (getD xs j 0)

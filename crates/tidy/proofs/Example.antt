@@ -2,6 +2,7 @@
 -- the middle and absent slots at the end. And a third that is not equal to them: what is empty there is absent here. Each is tidied by computation, and the claims hold
 -- of them, their premises met. Assumes nothing.
 use mathlib.Core.Path.{_≡_, refl, sym, ap, _∙_}
+use mathlib.Core.Bool.{true}
 use mathlib.Core.List.{List, [], _∷_, _++_}
 use Prim.Native.Nat.{ℕ}
 use native.Mathlib.Omega.{arith}
@@ -12,7 +13,7 @@ use Rattle.writer.specs.Writer.{dataOf, startsFrom, bundleBytes}
 use Rattle.tidy.specs.Tidy.{keptCount, firstContents, tidyLenOf, tidyOutcome, tidyOf}
 use Rattle.tidy.specs.Claim.{EqualSets, TidyForm}
 use Rattle.tidy.specs.declared.Tidied.the-variants as T
-use Rattle.tidy.proofs.Theorem.{equal-exactly, twice-is-once}
+use Rattle.tidy.proofs.Theorem.{same-images, equal-exactly, twice-is-once}
 
 abbrev mark : ℕ
 mark = 0xFFFFFFFF
@@ -30,8 +31,8 @@ abbrev three : List ℕ
 three = words (4 ∷ 4 ∷ 2 ∷ mark ∷ mark ∷ 0 ∷ 2 ∷ 0 ∷ 0 ∷ 1 ∷ []) ++ 66 ∷ 45 ∷ 65 ∷ 66 ∷ []
 
 -- the tidy form of the first two: four slots over "ABB", the empty image at 2, where "AB" ends
-abbrev tidied : List ℕ
-tidied = words (4 ∷ 3 ∷ 0 ∷ mark ∷ 2 ∷ 2 ∷ 2 ∷ 0 ∷ 0 ∷ 1 ∷ []) ++ 65 ∷ 66 ∷ 66 ∷ []
+abbrev form : List ℕ
+form = words (4 ∷ 3 ∷ 0 ∷ mark ∷ 2 ∷ 2 ∷ 2 ∷ 0 ∷ 0 ∷ 1 ∷ []) ++ 65 ∷ 66 ∷ 66 ∷ []
 
 -- and of the third
 abbrev other : List ℕ
@@ -41,11 +42,11 @@ other = words (4 ∷ 3 ∷ 0 ∷ mark ∷ mark ∷ 2 ∷ 2 ∷ 0 ∷ 0 ∷ 1 ∷
 abbrev room : List ℕ
 room = replicate 48 7
 
-one-tidied : tidyOf one room ≡ tidyOutcome (T.Made 43) (tidied ++ replicate 5 7)
+one-tidied : tidyOf one room ≡ tidyOutcome (T.Made 43) (form ++ replicate 5 7)
 unfolding tidyOf tidyLenOf wellFormed slotsGood slotOf le leBytes fields keptCount firstContents dataOf startsFrom bundleBytes
 one-tidied = refl
 
-two-tidied : tidyOf two room ≡ tidyOutcome (T.Made 43) (tidied ++ replicate 5 7)
+two-tidied : tidyOf two room ≡ tidyOutcome (T.Made 43) (form ++ replicate 5 7)
 unfolding tidyOf tidyLenOf wellFormed slotsGood slotOf le leBytes fields keptCount firstContents dataOf startsFrom bundleBytes
 two-tidied = refl
 
@@ -55,12 +56,12 @@ three-tidied = refl
 
 -- ---- the premises met
 
-form-one : TidyForm one tidied
+form-one : TidyForm one form
 unfolding leBytes fields
 form-one =
     record { to = room; len = 43; made = ap (λ o. o .tidied) one-tidied; bytes = sym (ap (λ o. take 43 (o .to)) one-tidied) }
 
-form-two : TidyForm two tidied
+form-two : TidyForm two form
 unfolding leBytes fields
 form-two =
     record { to = room; len = 43; made = ap (λ o. o .tidied) two-tidied; bytes = sym (ap (λ o. take 43 (o .to)) two-tidied) }
@@ -76,28 +77,39 @@ unfolding leBytes fields
 files-differ e = let z : _≡_ {A = ℕ} 5 4 = ap (λ (s : List ℕ). getD s 0 0) e in omega arith
 
 equal : EqualSets one two
-equal = equal-exactly one two tidied tidied form-one form-two .1 refl
+equal = equal-exactly one two form form form-one form-two .1 refl
 
 -- the third has another form: it is not equal
-forms-differ : tidied ≡ other → ⊥
+forms-differ : form ≡ other → ⊥
 unfolding leBytes fields
 forms-differ e = let z : _≡_ {A = ℕ} 2 255 = ap (λ (s : List ℕ). getD s 16 0) e in omega arith
 
 not-equal : EqualSets one three → ⊥
-not-equal h = forms-differ (equal-exactly one three tidied other form-one form-three .0 h)
+not-equal h = forms-differ (equal-exactly one three form other form-one form-three .0 h)
+
+-- the form is an image set, and equal to both
+is-set : wellFormed true form ≡ true
+is-set = same-images one form form-one .0
+
+form-equal : EqualSets form two
+form-equal = same-images two form form-two .1
 
 -- tidied again
-again : tidyOf tidied room ≡ tidyOutcome (T.Made 43) (tidied ++ replicate 5 7)
-again = twice-is-once one tidied form-one room ∙ one-tidied
+again : tidyOf form room ≡ tidyOutcome (T.Made 43) (form ++ replicate 5 7)
+again = twice-is-once one form form-one room ∙ one-tidied
 
 -- ---- refusals
 
--- a buffer of 42 bytes is one too short, and stays as it was; tidied again, the same
+-- a buffer of 42 bytes is one too short, and stays as it was
 short : tidyOf one (replicate 42 7) ≡ tidyOutcome (T.Refused 29) (replicate 42 7)
 unfolding tidyOf tidyLenOf wellFormed slotsGood slotOf le leBytes fields keptCount firstContents dataOf startsFrom bundleBytes
 short = refl
 
--- a byte behind the data: malformed, before the room is looked at
+-- of the form itself, too
+short-again : tidyOf form (replicate 42 7) ≡ tidyOutcome (T.Refused 29) (replicate 42 7)
+short-again = twice-is-once one form form-one (replicate 42 7) ∙ short
+
+-- a byte behind the data: malformed, before the buffer is looked at
 malformed : tidyOf (one ++ 0 ∷ []) [] ≡ tidyOutcome (T.Refused 28) []
 unfolding tidyOf tidyLenOf wellFormed slotsGood slotOf le leBytes fields keptCount firstContents dataOf startsFrom bundleBytes
 malformed = refl

@@ -22,6 +22,10 @@ use Rattle.writer.proofs.Laws.{data-more, starts-more, length-starts, length-bu
 use Rattle.tidy.specs.Tidy.{keptCount, firstContents, slotsKept, tidyBytes, tidyData, tidyLenOf, tidyOf, tidyOutcome}
 use Rattle.tidy.specs.declared.Tidied.the-variants as T
 
+-- the answers differ
+pub refused≢made : {why k : ℕ} → T.Refused why ≡ T.Made k → ⊥
+refused≢made q = let z : _≡_ {A = ℕ} 0 1 = cc in omega arith
+
 -- ---- the first slots of a set
 
 module _ (set : List ℕ) where
@@ -192,9 +196,8 @@ module _ (set : List ℕ) where
   pub made-of : (len : ℕ) → tidyLenOf set ≡ T.Made len → (wellFormed true set ≡ true) × (tidyData set ≤ mostData) × (length (tidyBytes set) ≡ len)
   unfolding tidyLenOf
   made-of len e =
-      let n : (k : ℕ) → T.Refused k ≡ T.Made len → ⊥ = λ k q. let z : _≡_ {A = ℕ} 0 1 = cc in omega arith in
-      let t = by-then (wellFormed true set) _ (T.Refused 28) (n 28) e in
-      let u = by-else (ltb mostData (tidyData set)) (T.Refused 29) _ (n 29) (t .1) in
+      let t = by-then (wellFormed true set) _ (T.Refused 28) refused≢made e in
+      let u = by-else (ltb mostData (tidyData set)) (T.Refused 29) _ refused≢made (t .1) in
       (t .0, ltb-false _ _ (u .0), (let q : length (tidyBytes set) ≡ len = cc in q))
 
   module _ (to : List ℕ) where

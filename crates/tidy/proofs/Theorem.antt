@@ -21,7 +21,7 @@ use Rattle.tidy.specs.Tidy.{keptCount, firstContents, slotsKept, tidyByt
 use Rattle.tidy.specs.Claim.{EqualSets, TidyForm, EqualExactly, SameImages, TwiceIsOnce}
 use Rattle.tidy.specs.declared.Tidied.{Tidied}
 use Rattle.tidy.specs.declared.Tidied.the-variants as T
-use Rattle.tidy.proofs.Laws.{length-first, first-at, kept-present, kept-absent, kept-most, len-made, made-of, tidy-refused, tidy-short, tidy-fits}
+use Rattle.tidy.proofs.Laws.{refused≢made, length-first, first-at, kept-present, kept-absent, kept-most, kept-few, len-made, made-of, tidy-refused, tidy-short, tidy-fits}
 
 -- ---- slots that are not there
 
@@ -83,7 +83,7 @@ module _ (a b : List ℕ) where
 
 module _ (set : List ℕ) (w : wellFormed true set ≡ true) (l : tidyData set ≤ mostData) where
   few : length (slotsKept set) ≤ 64
-  few = rw length-first (omega (arith, kept-most set (countOf set), formed true set w .few))
+  few = rw length-first (kept-few set w)
 
   form-formed : wellFormed true (tidyBytes set) ≡ true
   form-formed = set-back (slotsKept set) few l
@@ -114,9 +114,6 @@ pub record Given (set form : List ℕ) : Type 0 where
   pub good : wellFormed true set ≡ true
   pub little : tidyData set ≤ mostData
   pub is : form ≡ tidyBytes set
-
-refused≢made : {why k : ℕ} → T.Refused why ≡ T.Made k → ⊥
-refused≢made q = let z : _≡_ {A = ℕ} 0 1 = cc in omega arith
 
 pub given : (set form : List ℕ) → TidyForm set form → Given set form
 given set form f = by (tidyLenOf set) refl

@@ -19,9 +19,6 @@ ghost use Rattle.writer.specs.Writer.{isPresent, bytesIn, sizeIn, contentOf, da
 ghost use Rattle.tidy.specs.Tidy.{
   keptCount,
   firstContents,
-  slotsKept,
-  tidyBytes,
-  tidyData,
   tidyLenOf,
   tidyOf,
   tidiedTold,
@@ -89,7 +86,7 @@ fn kept_count(set: &[u8], n: usize) -> usize
 }
 
 // The slots of the tidy form: how many.
-fn slots_kept(set: &[u8]) -> usize
+fn form_count(set: &[u8]) -> usize
     ensures { λ r. ⌜ r ≡ keptCount (now (set .entry)) (countOf (now (set .entry))) ⌝ }
 {
     kept_count(set, u32_padded(set, 0) as usize)
@@ -97,7 +94,7 @@ fn slots_kept(set: &[u8]) -> usize
 
 // The data bytes of the first n slots: how many, and of too many one more than the most.
 fn data_size(set: &[u8], n: usize) -> usize
-    ensures { λ r. ⌜ r ≡ min 4294967295 (length (dataOf (firstContents (now (set .entry)) n))) ⌝ }
+    ensures { λ r. ⌜ r ≡ min (mostData + 1) (length (dataOf (firstContents (now (set .entry)) n))) ⌝ }
 {
     let mut total: usize = 0;
     let mut i: usize = 0;
@@ -119,7 +116,7 @@ pub fn tidy_len(set: &[u8]) -> Tidied
     let Checked::Good = check_images(set) else {
         return Tidied::Refused(28);
     };
-    let n = slots_kept(set);
+    let n = form_count(set);
     let size = data_size(set, n);
     if MOST < size {
         return Tidied::Refused(29);
@@ -196,7 +193,7 @@ fn put_form(to: &mut [u8], set: &[u8], n: usize, size: usize)
     put_data(to, 8 + 8 * n, set, n);
 }
 
-// The tidy form of this length.
+// The tidy form, which is so long: written where it fits.
 fn tidy_of(set: &[u8], to: &mut [u8], len: usize) -> Tidied
     requires { ⌜ tidyLenOf (now set) ≡ Tidied.Made len ⌝ }
     ensures { λ r. ⌜ tidyOutcome r (now (to .exit)) ≡ tidyOf (now (set .entry)) (now (to .entry)) ⌝ }
@@ -204,7 +201,7 @@ fn tidy_of(set: &[u8], to: &mut [u8], len: usize) -> Tidied
     if to.len() < len {
         return Tidied::Refused(29);
     }
-    let n = slots_kept(set);
+    let n = form_count(set);
     put_form(to, set, n, len - 8 - 8 * n);
     Tidied::Made(len)
 }

@@ -45,14 +45,14 @@ length-starts before [] = refl
 length-starts before (x ∷ xs) = ap suc (length-starts (before + sizeIn x) xs)
 
 -- where a slot starts
-start-at : (before : ℕ) (xs : List Content) (i : ℕ) → i < length xs
+starts-at : (before : ℕ) (xs : List Content) (i : ℕ) → i < length xs
     → getD (startsFrom before xs) i 0 ≡ startFor (before + length (dataOf (take i xs))) (getD xs i none)
 unfolding dataOf startsFrom
-start-at before [] i h = absurd (omega arith)
-start-at before (x ∷ xs) zero h = rw add-zero refl
-start-at before (x ∷ xs) (suc i) h =
+starts-at before [] i h = absurd (omega arith)
+starts-at before (x ∷ xs) zero h = rw add-zero refl
+starts-at before (x ∷ xs) (suc i) h =
     let e : before + sizeIn x + length (dataOf (take i xs)) ≡ before + length (bytesIn x ++ dataOf (take i xs)) = rw length-append (omega arith) in
-    start-at (before + sizeIn x) xs i (omega arith) ∙ ap (λ (k : ℕ). startFor k (getD xs i none)) e
+    starts-at (before + sizeIn x) xs i (omega arith) ∙ ap (λ (k : ℕ). startFor k (getD xs i none)) e
 
 -- its bytes stand there in the data
 data-at : (xs : List Content) (i : ℕ) → i < length xs
@@ -71,8 +71,8 @@ data-within [] i h = absurd (omega arith)
 data-within (x ∷ xs) zero h = rw length-append (omega arith)
 data-within (x ∷ xs) (suc i) h = rw (length-append, length-append) (omega (arith, data-within xs i (omega arith)))
 
-size-at : (xs : List Content) (i : ℕ) → getD (map sizeIn xs) i 0 ≡ sizeIn (getD xs i none)
-size-at xs i = List·getD-map sizeIn xs i none
+sizes-at : (xs : List Content) (i : ℕ) → getD (map sizeIn xs) i 0 ≡ sizeIn (getD xs i none)
+sizes-at xs i = List·getD-map sizeIn xs i none
 
 -- ---- the numbers of a bundle
 
@@ -122,7 +122,7 @@ module _ (xs : List Content) (few : length xs ≤ 64) (little : length (dataOf x
     pub start-back : slotStartOf (bundleBytes xs) i ≡ startFor (length (dataOf (take i xs))) (getD xs i none)
     start-back =
         let e : getD (numbers xs) (suc (suc i)) 0 ≡ startFor (length (dataOf (take i xs))) (getD xs i none) =
-        List·getD-append (startsFrom 0 xs) (map sizeIn xs) 0 i (rw length-starts h) ∙ start-at 0 xs i h ∙ rw zero-add refl in
+        List·getD-append (startsFrom 0 xs) (map sizeIn xs) 0 i (rw length-starts h) ∙ starts-at 0 xs i h ∙ rw zero-add refl in
         let f : 8 + 4 * i ≡ 4 * suc (suc i) = omega arith in
         let l = start-below (length (dataOf (take i xs))) (getD xs i none) (omega (arith, data-within xs i h)) in
         rw f (number-at (suc (suc i)) (startFor (length (dataOf (take i xs))) (getD xs i none)) (omega arith) e l)
@@ -132,7 +132,7 @@ module _ (xs : List Content) (few : length xs ≤ 64) (little : length (dataOf x
         let q : getD (startsFrom 0 xs ++ map sizeIn xs) (length xs + i) 0 ≡ sizeIn (getD xs i none) =
         ap (λ (k : ℕ). getD (startsFrom 0 xs ++ map sizeIn xs) (k + i) 0) (sym (length-starts 0 xs))
         ∙ getD-append-add (startsFrom 0 xs) (map sizeIn xs) i 0
-        ∙ size-at xs i in
+        ∙ sizes-at xs i in
         let f : 8 + 4 * length xs + 4 * i ≡ 4 * suc (suc (length xs + i)) = omega arith in
         rw (count-back, f) (number-at (suc (suc (length xs + i))) (sizeIn (getD xs i none)) (omega arith) q (omega (arith, data-within xs i h)))
 

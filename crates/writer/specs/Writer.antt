@@ -28,12 +28,13 @@ sizeIn x = length (bytesIn x)
 
 -- ---- read
 
--- the content of slot i of a bundle: nothing too where there is no such slot
+-- the content of a slot of a bundle; nothing where there is no such slot
 abbrev pub contentAt : List ℕ → Slot → Content
 contentAt b (At start size) = some (take size (drop start b))
 contentAt b Absent = none
 contentAt b Missing = none
 
+-- of slot i
 abbrev pub contentOf : List ℕ → ℕ → Content
 contentOf b i = contentAt b (slotOf b i)
 

@@ -33,8 +33,8 @@ returns c =
     let e = sym (c .before .before .check-images .ensures .is) ∙ c .enum-told2 .given .1 in
     tells tidiedTold (sym (len-malformed B (checked-refused (wellFormed true B) 1 _ e)))
 
-slots-kept-requires : tie.Need-slots-kept-requires
-slots-kept-requires c κs = search needs
+form-count-requires : tie.Need-form-count-requires
+form-count-requires c κs = search needs
 
 data-size-requires : tie.Need-data-size-requires
 data-size-requires c κs = search needs
@@ -43,16 +43,16 @@ data-size-requires c κs = search needs
 pub record Measured (set : List ℕ) (n size : ℕ) : Type 0 where
   pub good : wellFormed true set ≡ true
   pub count : n ≡ keptCount set (countOf set)
-  pub sum : size ≡ min 4294967295 (tidyData set)
+  pub sum : size ≡ min (mostData + 1) (tidyData set)
 
-measured : (c : tie.After-data-size) → Measured (now (c .before .before .before .before .before .before .args .set)) (c .before .slots-kept .result) (c .data-size .result)
+measured : (c : tie.After-data-size) → Measured (now (c .before .before .before .before .before .before .args .set)) (c .before .form-count .result) (c .data-size .result)
 measured c =
     let B : List ℕ = now (c .before .before .before .before .before .before .args .set) in
     let e : imagesChecked B ≡ C.Good = cc in
     record {
       good = checked-good (wellFormed true B) 1 e;
-      count = c .before .slots-kept .ensures;
-      sum = c .data-size .ensures ∙ ap (λ (k : ℕ). min 4294967295 (length (dataOf (firstContents B k)))) (c .before .slots-kept .ensures);
+      count = c .before .form-count .ensures;
+      sum = c .data-size .ensures ∙ ap (λ (k : ℕ). min (mostData + 1) (length (dataOf (firstContents B k)))) (c .before .form-count .ensures);
     }
 
 returns-2 : tie.Need-returns-2
@@ -82,7 +82,7 @@ returns-3 c =
     let B : List ℕ = now (c .before .before .before .before .before .before .before .args .set) in
     let m = measured (c .before) in
     let l : tidyData B ≤ mostData = omega (arith, m .sum) in
-    let k : 8 + 8 * c .before .before .slots-kept .result + c .before .data-size .result ≡ length (tidyBytes B) =
+    let k : 8 + 8 * c .before .before .form-count .result + c .before .data-size .result ≡ length (tidyBytes B) =
     omega (arith, m .count, m .sum, length-tidy B) in
     tells tidiedTold (ap T.Made k ∙ sym (len-made B (m .good) l))
 
@@ -94,7 +94,7 @@ tidy-len-spec =
     enum-told
     enum-told-2
     returns
-    slots-kept-requires
+    form-count-requires
     data-size-requires
     returns-2
     mul-t6

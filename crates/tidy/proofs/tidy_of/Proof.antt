@@ -19,8 +19,8 @@ returns c =
     let a = c .before .before .before .args in
     sym (tidy-short (now (a .set)) (now (a .to)) (a .len) (c .before .before .before .pre) (omega arith))
 
-slots-kept-requires : tie.Need-slots-kept-requires
-slots-kept-requires c κs = search needs
+form-count-requires : tie.Need-form-count-requires
+form-count-requires c κs = search needs
 
 -- the length is that of a form of so many slots
 pub record Sized (set : List ℕ) (n len : ℕ) : Type 0 where
@@ -29,16 +29,16 @@ pub record Sized (set : List ℕ) (n len : ℕ) : Type 0 where
   pub little : tidyData set ≤ mostData
   pub is : len ≡ 8 + 8 * n + tidyData set
 
-sized : (c : tie.After-slots-kept) → Sized (now (c .before .before .before .before .args .set)) (c .slots-kept .result) (c .before .before .before .before .args .len)
+sized : (c : tie.After-form-count) → Sized (now (c .before .before .before .before .args .set)) (c .form-count .result) (c .before .before .before .before .args .len)
 sized c =
     let a = c .before .before .before .before .args in
     let B : List ℕ = now (a .set) in
     let m = made-of B (a .len) (c .before .before .before .before .pre) in
     record {
-      few = omega (arith, c .slots-kept .ensures, kept-few B (m .0));
-      count = c .slots-kept .ensures;
+      few = omega (arith, c .form-count .ensures, kept-few B (m .0));
+      count = c .form-count .ensures;
       little = m .1;
-      is = omega (arith, m .2, length-tidy B, c .slots-kept .ensures);
+      is = omega (arith, m .2, length-tidy B, c .form-count .ensures);
     }
 
 sub-put-form : tie.Need-sub-put-form
@@ -55,9 +55,9 @@ put-form-requires c κs =
     let a = c .before .before .before .before .before .args in
     let B : List ℕ = now (a .set) in
     let m = sized (c .before) in
-    let e : length (bundleBytes (firstContents B (c .before .slots-kept .result))) ≡ a .len =
+    let e : length (bundleBytes (firstContents B (c .before .form-count .result))) ≡ a .len =
     ap (λ (k : ℕ). length (bundleBytes (firstContents B k))) (m .count) ∙ made-of B (a .len) (c .before .before .before .before .before .pre) .2 in
-    let d : length (dataOf (firstContents B (c .before .slots-kept .result))) ≡ tidyData B =
+    let d : length (dataOf (firstContents B (c .before .form-count .result))) ≡ tidyData B =
     ap (λ (k : ℕ). length (dataOf (firstContents B k))) (m .count) in
     (omega (arith, e), omega (arith, m .is, d), omega (arith, m .is, m .little), m .few)
 
@@ -71,7 +71,7 @@ returns-2 c =
     let a = s .before .before .before .before .args in
     let B : List ℕ = now (a .set) in
     let x : w .put-form .last .0 ≡ sets (now (a .to)) 0 (tidyBytes B) =
-    w .put-form .ensures ∙ ap (λ (k : ℕ). sets (now (a .to)) 0 (bundleBytes (firstContents B k))) (s .slots-kept .ensures) in
+    w .put-form .ensures ∙ ap (λ (k : ℕ). sets (now (a .to)) 0 (bundleBytes (firstContents B k))) (s .form-count .ensures) in
     tidy-stored B (now (a .to)) (a .len) (w .put-form .last .0) (s .before .before .before .before .pre) (omega arith) x
 
 pub tidy-of-spec : {M : Type 1} → statement M
@@ -79,7 +79,7 @@ tidy-of-spec =
     tie.close
     (tie.spec
     returns
-    slots-kept-requires
+    form-count-requires
     sub-put-form
     mul-put-form
     sub-put-form-2
