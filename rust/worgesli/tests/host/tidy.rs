@@ -331,18 +331,17 @@ fn equal_sets() {
 
 // ---- how long
 
-/// What the length of a form is said to be, and what tidying into little room says, of a set whose data no one may look at.
+/// What the length of a form is said to be, of a set whose data no one may look at; and tidied into little room it is refused, the buffer not even looked at.
 fn lengths(data: u32, slots: &[Slot]) -> Result<usize, u32> {
     let head = head(data, slots);
-    let set = Beginning::new(&head, head.len() + data as usize);
-    let (at, len) = set.parts();
-    let mut to = Guarded::new(&[0xee; 600], Side::Behind);
-    // Safe: what it may read is there, and what it must not read ends the test.
-    let (told, into) = unsafe { (raw::worgesli_tidy_len(at, len), raw::worgesli_tidy(at, len, to.as_mut_ptr(), to.len())) };
-    to.check();
-    assert!(into == raw::Tidied { len: 0, refused: 29 } && to.iter().all(|b| *b == 0xee), "{into:?}");
-    let shorter = unsafe { (raw::worgesli_tidy_len(at, len - 1), raw::worgesli_tidy(at, len - 1, to.as_mut_ptr(), to.len())) };
-    assert_eq!((shorter.0, shorter.1), (raw::Tidied { len: 0, refused: 28 }, raw::Tidied { len: 0, refused: 28 }));
+    let (set, to) = (Beginning::new(&head, head.len() + data as usize), Beginning::new(&[], 600));
+    let ((at, len), (room, room_len)) = (set.parts(), to.parts());
+    // Safe: what it may read is there, and what it must not touch ends the test.
+    let both = |len| unsafe { (raw::worgesli_tidy_len(at, len), raw::worgesli_tidy(at, len, room.cast_mut(), room_len)) };
+    let refused = |refused| raw::Tidied { len: 0, refused };
+    let (told, into) = both(len);
+    assert_eq!(into, refused(29));
+    assert_eq!(both(len - 1), (refused(28), refused(28)));
     assert!(told.refused == 0 || told.len == 0);
     if told.refused == 0 {
         Ok(told.len)
