@@ -14,8 +14,8 @@ use Rattle.image.specs.declared.ImageRange.{ImageRange}
 use Rattle.image.specs.declared.ImageRange.the-variants as R
 use Rattle.sheet.specs.declared.Sheet.{Sheet}
 use Rattle.sheet.specs.declared.Sheet.the-variants as S
-use Rattle.tidy.specs.declared.Tidied.{Tidied}
-use Rattle.tidy.specs.declared.Tidied.the-variants as Y
+use Rattle.tidied.specs.declared.Tidied.{Tidied}
+use Rattle.tidied.specs.declared.Tidied.the-variants as Y
 use Rattle.raw_records.specs.declared.RawEntry.{RawEntry}
 use Rattle.raw_records.specs.declared.RawRange.{RawRange}
 use Rattle.raw_records.specs.declared.RawSheet.{RawSheet}

@@ -6,7 +6,7 @@ use entry::EntryAt;
 use forecast::Foreseen;
 use image::ImageRange;
 use sheet::Sheet;
-use tidy::Tidied;
+use tidied::Tidied;
 ghost use mathlib.Core.Path.{_≡_};
 ghost use Rattle.base.specs.Choice.{pick};
 ghost use Rattle.raw_records.specs.Records.{rawEntry, rawRange, rawSheet, rawForecast, rawTidied, checkedNumber, builtNumber};

@@ -7,6 +7,7 @@ use bundle::slot_at;
 use copy::copy_into;
 use field::put_u32;
 use field::u32_padded;
+use tidied::Tidied;
 ghost use mathlib.Core.Path.{_≡_};
 ghost use mathlib.Core.List.{map};
 ghost use Prim.Native.Nat.{_+_, _*_, _≤_, min};
@@ -16,7 +17,7 @@ ghost use Rattle.base.specs.Told.{Tells};
 ghost use Rattle.bundle.specs.Bundle.{countOf};
 ghost use Rattle.field.specs.Field.{words};
 ghost use Rattle.writer.specs.Writer.{isPresent, bytesIn, sizeIn, contentOf, dataOf, startFor, startsFrom, bundleBytes, mostData};
-ghost use Rattle.tidy.specs.Tidy.{
+ghost use Rattle.tidied.specs.Tidy.{
   keptCount,
   firstContents,
   tidyLenOf,
@@ -25,12 +26,6 @@ ghost use Rattle.tidy.specs.Tidy.{
   tidyOutcome,
   tidyTold,
 };
-
-// How many bytes the tidy form has, or the refusal.
-pub enum Tidied {
-    Made(usize),
-    Refused(u8),
-}
 
 // The most data bytes.
 const MOST: usize = 0xFFFFFFFE;

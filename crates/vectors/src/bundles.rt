@@ -7,7 +7,7 @@ use bundle::check_names;
 use image::ImageId;
 use image::ImageRange;
 use image::image_range;
-use tidy::Tidied;
+use tidied::Tidied;
 use tidy::tidy;
 use tidy::tidy_len;
 

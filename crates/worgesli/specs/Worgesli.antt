@@ -17,7 +17,7 @@ use Rattle.raw_records.specs.declared.RawSheet.{RawSheet}
 use Rattle.raw_records.specs.declared.RawTidied.{RawTidied}
 use Rattle.sheet.specs.Sheet.{SheetOutcome, sheetOutcome, sheetOf}
 use Rattle.sheet.specs.declared.Sheet.the-variants as S
-use Rattle.tidy.specs.Tidy.{TidyOutcome}
+use Rattle.tidied.specs.Tidy.{TidyOutcome}
 
 -- entry i of a table; of a number that is no width there is none
 unfoldable pub entryRaw : List ℕ → ℕ → ℕ → EntryAt

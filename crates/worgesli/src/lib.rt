@@ -29,7 +29,7 @@ ghost use Rattle.raw.specs.Raw.{isSession, openedRaw, steppedAt, toldIn};
 ghost use Rattle.raw_packet.specs.RawPacket.{rawPacket};
 ghost use Rattle.raw_records.specs.Records.{rawEntry, rawRange, rawForecast, rawTidied, checkedNumber};
 ghost use Rattle.raw_step.specs.RawStep.{rawOutcome, stepRaw, rawAt, waitsAt, closedRaw, wantedRaw};
-ghost use Rattle.tidy.specs.Tidy.{tidyLenOf, tidyOf};
+ghost use Rattle.tidied.specs.Tidy.{tidyLenOf, tidyOf};
 ghost use Rattle.worgesli.specs.Worgesli.{
   entryRaw,
   nextRaw,

@@ -1,6 +1,6 @@
 -- `raw_records::raw_tidied` meets its contract: by the cases. Assumes nothing.
 use mathlib.Core.Path.{_≡_, sym, ap}
-use Rattle.tidy.specs.declared.Tidied.the-variants as Y
+use Rattle.tidied.specs.declared.Tidied.the-variants as Y
 use Rattle.raw_records.specs.Records.{rawTidied}
 use borrow.Author.Needs.{needs}
 use Rattle.raw_records.proofs.raw_tidied.Statement.{statement}

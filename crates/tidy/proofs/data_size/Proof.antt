@@ -7,8 +7,8 @@ use native.Mathlib.Omega.{arith}
 use denote.Ref.{now}
 use lib.ListN.{length}
 use Rattle.writer.specs.Writer.{dataOf, mostData}
-use Rattle.tidy.specs.Tidy.{firstContents}
-use Rattle.tidy.proofs.Laws.{data-none, data-grows, data-up-to}
+use Rattle.tidied.specs.Tidy.{firstContents}
+use Rattle.tidied.proofs.Laws.{data-none, data-grows, data-up-to}
 use borrow.Author.Needs.{needs}
 use Rattle.tidy.proofs.data_size.Statement.{statement}
 use Rattle.tidy.proofs.data_size.Tie as tie

@@ -1,7 +1,7 @@
 -- `tidy::form_count` meets its contract: the count is the set's first number. Assumes nothing.
 use mathlib.Core.Path.{ap, _∙_}
 use denote.Ref.{now}
-use Rattle.tidy.specs.Tidy.{keptCount}
+use Rattle.tidied.specs.Tidy.{keptCount}
 use borrow.Author.Needs.{needs}
 use Rattle.tidy.proofs.form_count.Statement.{statement}
 use Rattle.tidy.proofs.form_count.Tie as tie

@@ -6,8 +6,8 @@ use Prim.Native.Nat.{ℕ, suc, _-_, _≤_}
 use native.Mathlib.Omega.{arith}
 use denote.Ref.{now}
 use Rattle.writer.specs.Writer.{isPresent, contentOf}
-use Rattle.tidy.specs.Tidy.{keptCount}
-use Rattle.tidy.proofs.Laws.{kept-none, kept-present, kept-absent}
+use Rattle.tidied.specs.Tidy.{keptCount}
+use Rattle.tidied.proofs.Laws.{kept-none, kept-present, kept-absent}
 use borrow.Author.Needs.{needs}
 use Rattle.tidy.proofs.kept_count.Statement.{statement}
 use Rattle.tidy.proofs.kept_count.Tie as tie

@@ -8,8 +8,8 @@ use denote.Ref.{now}
 use lib.ListN.{length}
 use lib.Seq.{sets, length-sets}
 use Rattle.writer.specs.Writer.{bytesIn, contentOf, dataOf}
-use Rattle.tidy.specs.Tidy.{firstContents}
-use Rattle.tidy.proofs.Laws.{data-none, data-grows, data-up-to, data-stored}
+use Rattle.tidied.specs.Tidy.{firstContents}
+use Rattle.tidied.proofs.Laws.{data-none, data-grows, data-up-to, data-stored}
 use borrow.Author.Needs.{needs}
 use Rattle.tidy.proofs.put_data.Statement.{statement}
 use Rattle.tidy.proofs.put_data.Tie as tie

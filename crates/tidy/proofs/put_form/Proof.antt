@@ -9,8 +9,8 @@ use Rattle.field.specs.Field.{Written, leBytes}
 use Rattle.field.proofs.Laws.{put-done}
 use Rattle.writer.specs.Writer.{dataOf}
 use Rattle.writer.proofs.Laws.{length-bundle}
-use Rattle.tidy.specs.Tidy.{firstContents}
-use Rattle.tidy.proofs.Laws.{length-first, form-stored}
+use Rattle.tidied.specs.Tidy.{firstContents}
+use Rattle.tidied.proofs.Laws.{length-first, form-stored}
 use borrow.Author.Needs.{needs}
 use Rattle.tidy.proofs.put_form.Statement.{statement}
 use Rattle.tidy.proofs.put_form.Tie as tie

@@ -10,8 +10,8 @@ use lib.Seq.{sets, length-sets}
 use Rattle.field.specs.Field.{Written, leBytes, fields, words}
 use Rattle.field.proofs.Laws.{put-done}
 use Rattle.writer.specs.Writer.{sizeIn, contentOf}
-use Rattle.tidy.specs.Tidy.{firstContents}
-use Rattle.tidy.proofs.Laws.{data-up-to, lengths-stored}
+use Rattle.tidied.specs.Tidy.{firstContents}
+use Rattle.tidied.proofs.Laws.{data-up-to, lengths-stored}
 use borrow.Author.Needs.{needs}
 use Rattle.tidy.proofs.put_lengths.Statement.{statement}
 use Rattle.tidy.proofs.put_lengths.Tie as tie

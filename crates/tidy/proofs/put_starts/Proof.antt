@@ -10,8 +10,8 @@ use lib.Seq.{sets, length-sets}
 use Rattle.field.specs.Field.{Written, leBytes, fields, words}
 use Rattle.field.proofs.Laws.{put-done}
 use Rattle.writer.specs.Writer.{contentOf, dataOf, startFor, startsFrom}
-use Rattle.tidy.specs.Tidy.{firstContents}
-use Rattle.tidy.proofs.Laws.{data-none, data-grows, data-up-to, starts-stored}
+use Rattle.tidied.specs.Tidy.{firstContents}
+use Rattle.tidied.proofs.Laws.{data-none, data-grows, data-up-to, starts-stored}
 use borrow.Author.Needs.{needs}
 use Rattle.tidy.proofs.put_starts.Statement.{statement}
 use Rattle.tidy.proofs.put_starts.Tie as tie

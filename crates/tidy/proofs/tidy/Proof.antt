@@ -2,9 +2,9 @@
 use mathlib.Core.Path.{_≡_, sym}
 use denote.Ref.{now}
 use Rattle.base.proofs.Telling.{tells}
-use Rattle.tidy.specs.Tidy.{tidyLenOf, tidyTold}
-use Rattle.tidy.specs.declared.Tidied.the-variants as T
-use Rattle.tidy.proofs.Laws.{tidy-refused}
+use Rattle.tidied.specs.Tidy.{tidyLenOf, tidyTold}
+use Rattle.tidied.specs.declared.Tidied.the-variants as T
+use Rattle.tidied.proofs.Laws.{tidy-refused}
 use borrow.Author.Needs.{needs}
 use Rattle.tidy.proofs.tidy.Statement.{statement}
 use Rattle.tidy.proofs.tidy.Tie as tie

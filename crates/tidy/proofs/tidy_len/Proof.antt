@@ -11,9 +11,9 @@ use Rattle.bundle.specs.Bundle.{countOf, wellFormed, imagesChecked}
 use Rattle.bundle.specs.declared.Checked.the-variants as C
 use Rattle.bundle.proofs.Laws.{checked-good, checked-refused}
 use Rattle.writer.specs.Writer.{dataOf, mostData}
-use Rattle.tidy.specs.Tidy.{keptCount, firstContents, tidyBytes, tidyData, tidiedTold}
-use Rattle.tidy.specs.declared.Tidied.the-variants as T
-use Rattle.tidy.proofs.Laws.{kept-few, length-tidy, len-malformed, len-passes, len-made}
+use Rattle.tidied.specs.Tidy.{keptCount, firstContents, tidyBytes, tidyData, tidiedTold}
+use Rattle.tidied.specs.declared.Tidied.the-variants as T
+use Rattle.tidied.proofs.Laws.{kept-few, length-tidy, len-malformed, len-passes, len-made}
 use borrow.Author.Needs.{needs}
 use Rattle.tidy.proofs.tidy_len.Statement.{statement}
 use Rattle.tidy.proofs.tidy_len.Tie as tie

@@ -8,8 +8,8 @@ use lib.ListN.{length}
 use lib.Seq.{sets}
 use Rattle.bundle.specs.Bundle.{countOf}
 use Rattle.writer.specs.Writer.{dataOf, bundleBytes, mostData}
-use Rattle.tidy.specs.Tidy.{keptCount, firstContents, tidyBytes, tidyData}
-use Rattle.tidy.proofs.Laws.{kept-few, length-tidy, made-of, tidy-short, tidy-stored}
+use Rattle.tidied.specs.Tidy.{keptCount, firstContents, tidyBytes, tidyData}
+use Rattle.tidied.proofs.Laws.{kept-few, length-tidy, made-of, tidy-short, tidy-stored}
 use borrow.Author.Needs.{needs}
 use Rattle.tidy.proofs.tidy_of.Statement.{statement}
 use Rattle.tidy.proofs.tidy_of.Tie as tie

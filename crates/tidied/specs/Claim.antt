@@ -8,8 +8,8 @@ use mathlib.Core.List.{List}
 use lib.ListN.{take}
 use Rattle.bundle.specs.Bundle.{wellFormed}
 use Rattle.writer.specs.Writer.{contentOf}
-use Rattle.tidy.specs.Tidy.{tidyOf}
-use Rattle.tidy.specs.declared.Tidied.the-variants as T
+use Rattle.tidied.specs.Tidy.{tidyOf}
+use Rattle.tidied.specs.declared.Tidied.the-variants as T
 
 -- "Two sets are equal if each ID below 64, looked up as a plain slot, has the same bytes or is absent in both": no one-image rule
 abbrev pub EqualSets : List ℕ → List ℕ → Type 0

@@ -11,8 +11,8 @@ use Rattle.base.specs.Choice.{pick}
 use Rattle.base.specs.Told.{Told, told, toldRefused}
 use Rattle.bundle.specs.Bundle.{countOf, wellFormed}
 use Rattle.writer.specs.Writer.{Content, isPresent, contentOf, dataOf, bundleBytes, mostData}
-use Rattle.tidy.specs.declared.Tidied.{Tidied}
-use Rattle.tidy.specs.declared.Tidied.the-variants as T
+use Rattle.tidied.specs.declared.Tidied.{Tidied}
+use Rattle.tidied.specs.declared.Tidied.the-variants as T
 
 -- "trailing absent slots dropped": of k slots, how many are left
 unfoldable pub keptCount : List ℕ → ℕ → ℕ

@@ -19,8 +19,8 @@ use Rattle.bundle.specs.Bundle.{countOf, wellFormed}
 use Rattle.bundle.proofs.Laws.{formed}
 use Rattle.writer.specs.Writer.{Content, isPresent, bytesIn, sizeIn, contentOf, dataOf, startFor, startsFrom, bundleBytes, mostData}
 use Rattle.writer.proofs.Laws.{data-more, starts-more, length-starts, length-bundle}
-use Rattle.tidy.specs.Tidy.{keptCount, firstContents, slotsKept, tidyBytes, tidyData, tidyLenOf, tidyOf, tidyOutcome}
-use Rattle.tidy.specs.declared.Tidied.the-variants as T
+use Rattle.tidied.specs.Tidy.{keptCount, firstContents, slotsKept, tidyBytes, tidyData, tidyLenOf, tidyOf, tidyOutcome}
+use Rattle.tidied.specs.declared.Tidied.the-variants as T
 
 -- the answers differ
 pub refused≢made : {why k : ℕ} → T.Refused why ≡ T.Made k → ⊥

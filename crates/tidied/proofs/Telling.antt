@@ -5,9 +5,9 @@ use lib.ListN.{getD}
 use Rattle.base.specs.Choice.{pick}
 use Rattle.base.specs.Told.{Told}
 use Rattle.base.proofs.Telling.{apart}
-use Rattle.tidy.specs.Tidy.{tidiedTold}
-use Rattle.tidy.specs.declared.Tidied.{Tidied}
-use Rattle.tidy.specs.declared.Tidied.the-variants as T
+use Rattle.tidied.specs.Tidy.{tidiedTold}
+use Rattle.tidied.specs.declared.Tidied.{Tidied}
+use Rattle.tidied.specs.declared.Tidied.the-variants as T
 
 abbrev tidiedFrom : Told → Tidied
 tidiedFrom t = pick (eqb (t .number) 0) (T.Made (getD (t .values) 0 0)) (T.Refused (getD (t .values) 0 0))

@@ -17,11 +17,11 @@ use Rattle.bundle.specs.Bundle.{countOf, wellFormed}
 use Rattle.bundle.proofs.Laws.{formed, slot-past}
 use Rattle.writer.specs.Writer.{Content, isPresent, contentAt, contentOf, bundleBytes, mostData}
 use Rattle.writer.proofs.Laws.{set-back, content-back}
-use Rattle.tidy.specs.Tidy.{keptCount, firstContents, slotsKept, tidyBytes, tidyData, tidyLenOf, placed, TidyOutcome, tidyOf}
-use Rattle.tidy.specs.Claim.{EqualSets, TidyForm, EqualExactly, SameImages, TwiceIsOnce}
-use Rattle.tidy.specs.declared.Tidied.{Tidied}
-use Rattle.tidy.specs.declared.Tidied.the-variants as T
-use Rattle.tidy.proofs.Laws.{refused≢made, length-first, first-at, kept-present, kept-absent, kept-most, kept-few, len-made, made-of, tidy-refused, tidy-short, tidy-fits}
+use Rattle.tidied.specs.Tidy.{keptCount, firstContents, slotsKept, tidyBytes, tidyData, tidyLenOf, placed, TidyOutcome, tidyOf}
+use Rattle.tidied.specs.Claim.{EqualSets, TidyForm, EqualExactly, SameImages, TwiceIsOnce}
+use Rattle.tidied.specs.declared.Tidied.{Tidied}
+use Rattle.tidied.specs.declared.Tidied.the-variants as T
+use Rattle.tidied.proofs.Laws.{refused≢made, length-first, first-at, kept-present, kept-absent, kept-most, kept-few, len-made, made-of, tidy-refused, tidy-short, tidy-fits}
 
 -- ---- slots that are not there
 

@@ -10,10 +10,10 @@ use lib.ListN.{getD, take, replicate}
 use Rattle.field.specs.Field.{le, leBytes, fields, words}
 use Rattle.bundle.specs.Bundle.{slotsGood, wellFormed, slotOf}
 use Rattle.writer.specs.Writer.{dataOf, startsFrom, bundleBytes}
-use Rattle.tidy.specs.Tidy.{keptCount, firstContents, tidyLenOf, tidyOutcome, tidyOf}
-use Rattle.tidy.specs.Claim.{EqualSets, TidyForm}
-use Rattle.tidy.specs.declared.Tidied.the-variants as T
-use Rattle.tidy.proofs.Theorem.{same-images, equal-exactly, twice-is-once}
+use Rattle.tidied.specs.Tidy.{keptCount, firstContents, tidyLenOf, tidyOutcome, tidyOf}
+use Rattle.tidied.specs.Claim.{EqualSets, TidyForm}
+use Rattle.tidied.specs.declared.Tidied.the-variants as T
+use Rattle.tidied.proofs.Theorem.{same-images, equal-exactly, twice-is-once}
 
 abbrev mark : ℕ
 mark = 0xFFFFFFFF
