@@ -5,7 +5,8 @@
  * SET is a file, or a pipe (/dev/stdin), with an image set; it is only read. TIDY gets the form: it is written as TIDY.part, and has its name only when it is
  * whole and on the disk. Nothing that is there is written over, so that TIDY is not SET. TIDY and its length go to standard output, and the exit status is 0;
  * 2 for a wrong call, else 1: it is told why, and nothing that was made is left behind. (A process that is killed may leave TIDY.part: remove it before the
- * next.) Set and form are both held in memory. TIDY gets its name by a hard link: on a file system that has none (FAT) it cannot be made, which is told.
+ * next.) Set and form are both held in memory; where slots share bytes, the form may be far longer than the set. Where slot 0 alone is left, it serves every
+ * ID: a set of more slots did not. TIDY gets its name by a hard link, through /proc: on a file system that has none (FAT) it cannot be made, which is told.
  */
 #define _POSIX_C_SOURCE 200809L
 #include <errno.h>
@@ -14,6 +15,7 @@
 #include <stdio.h>
 #include <stdlib.h>
 #include <string.h>
+#include <sys/stat.h>
 #include <unistd.h>
 
 #include "worgesli.h"
@@ -22,13 +24,32 @@ static struct {
     const char *set, *tidy, *part; /* paths: SET, TIDY, TIDY.part */
     int folder;                    /* of the last two, and their names there */
     const char *tidy_name, *part_name;
-    bool tidy_made, part_made; /* they are there, and ours */
+    int file;                  /* what was written */
+    bool tidy_made, part_made; /* they got these names */
     uint8_t *bytes, *form;     /* the set's, and its tidy form */
 } f;
 
-static void removed(bool made, const char *name, const char *path)
+/* Whether the name is that of the file that was written, and not of another that took it: 1, 0, or -1 where that cannot be seen (errno knows). */
+static int ours(const char *name)
 {
-    if (made && unlinkat(f.folder, name, 0) < 0)
+    struct stat a, b;
+    if (fstat(f.file, &a) < 0)
+        return -1;
+    if (fstatat(f.folder, name, &b, AT_SYMLINK_NOFOLLOW) < 0)
+        return errno == ENOENT ? 0 : -1;
+    return a.st_dev == b.st_dev && a.st_ino == b.st_ino;
+}
+
+/* Takes the name from that file, where it has it. */
+static bool removed(const char *name)
+{
+    const int is = ours(name);
+    return is == 0 || (is > 0 && unlinkat(f.folder, name, 0) == 0);
+}
+
+static void clear(bool made, const char *name, const char *path)
+{
+    if (made && !removed(name))
         fprintf(stderr, "tidy: it could NOT be removed: %s: %s\n", path, strerror(errno));
 }
 
@@ -36,8 +57,8 @@ static void removed(bool made, const char *name, const char *path)
 static _Noreturn void stop(const char *what, const char *why)
 {
     fprintf(stderr, "tidy: %s: %s\n", what, why != NULL ? why : strerror(errno));
-    removed(f.tidy_made, f.tidy_name, f.tidy);
-    removed(f.part_made, f.part_name, f.part);
+    clear(f.tidy_made, f.tidy_name, f.tidy);
+    clear(f.part_made, f.part_name, f.part);
     fprintf(stderr, "tidy: not written: %s\n", f.tidy);
     exit(1);
 }
@@ -120,6 +141,9 @@ static void open_folder(void)
         stop(f.tidy, NULL);
     strcpy(path, f.tidy), strcat(path, ".part");
     f.part_name = path + n, f.tidy_name = f.tidy + n;
+    struct stat there; /* it would be found later too, behind all the work */
+    if (fstatat(f.folder, f.tidy_name, &there, AT_SYMLINK_NOFOLLOW) == 0)
+        stop(f.tidy, strerror(EEXIST));
 }
 
 static void to_disk(int fd, const char *what)
@@ -132,26 +156,29 @@ static void to_disk(int fd, const char *what)
 /* A new file with these bytes: they are on the disk before it has its name, which no other file has, and then the name is too. */
 static void write_file(const uint8_t *from, size_t n)
 {
-    const int file = openat(f.folder, f.part_name, O_WRONLY | O_CREAT | O_EXCL | O_CLOEXEC, 0666);
-    if (file < 0)
-        stop(f.part, NULL);
+    f.file = openat(f.folder, f.part_name, O_WRONLY | O_CREAT | O_EXCL | O_CLOEXEC, 0666);
+    if (f.file < 0)
+        stop(f.part, errno == EEXIST ? "File exists: another call is writing it, or was killed" : NULL);
     f.part_made = true;
     while (n > 0) {
-        const ssize_t k = write(file, from, n);
+        const ssize_t k = write(f.file, from, n);
         if (k > 0)
             from += k, n -= (size_t)k;
         else if (k == 0 || errno != EINTR)
             stop(f.part, k == 0 ? "it takes no bytes" : NULL);
     }
-    to_disk(file, f.part);
-    if (linkat(f.folder, f.part_name, f.folder, f.tidy_name, 0) < 0)
+    to_disk(f.file, f.part);
+    /* the file itself: its name may have been removed, and be another's by now */
+    char itself[32];
+    snprintf(itself, sizeof itself, "/proc/self/fd/%d", f.file);
+    if (linkat(AT_FDCWD, itself, f.folder, f.tidy_name, AT_SYMLINK_FOLLOW) < 0)
         stop(f.tidy, NULL);
     f.tidy_made = true;
-    if (unlinkat(f.folder, f.part_name, 0) < 0)
+    if (!removed(f.part_name))
         stop(f.part, NULL);
     f.part_made = false;
     to_disk(f.folder, f.tidy);
-    close(file);
+    close(f.file);
 }
 
 /* Descriptors 0 to 2 are taken, by nothing if need be: else a file would get one, and what is said to people. */
@@ -177,6 +204,7 @@ int main(int argc, char **argv)
     open_folder();
     const size_t len = make_form(read_set());
     write_file(f.form, len);
-    printf("%s: %zu bytes\n", f.tidy, len);
+    if (printf("%s: %zu bytes\n", f.tidy, len) < 0 || fflush(stdout) != 0)
+        fprintf(stderr, "tidy: it is written, and that could not be said: %s\n", strerror(errno));
     return 0;
 }

@@ -1,7 +1,9 @@
 /* System calls of examples/fetch.c and examples/tidy.c that do what they may, linked around each with --wrap. FAULTS is a seed: reads and writes move a part
  * of what they could, are interrupted, find a port that is not ready or, reading from it, 0 bytes; but no more than 3 times in a row nothing comes. FAIL is
  * CALL:N:ERRNO: the N-th call of that name, and each after it, fails. What is read from the port or written to it is no `read` or `write` there. FREE: so many
- * blocks of 512 bytes are free. FORECAST is 0, 1 or 2: a forecast's regions, bytes or memory reads are one more.
+ * blocks of 512 bytes are free. FORECAST is 0, 1 or 2: a forecast's regions, bytes or memory reads are one more. REPLACED: just before a file gets its name by a
+ * link, what has this name in the folder is removed, and a file of one byte has it.
+ * Whatever is asked for, a file that gets its name while bytes of it are not synced, and a sync of a folder that is not the one where it got it, abort.
  */
 #define _POSIX_C_SOURCE 200809L
 #include <errno.h>
@@ -50,6 +52,8 @@ void *__wrap_realloc(void *, size_t);
 worgesli_forecast __wrap_worgesli_forecast_table(const uint8_t *, size_t, uint64_t, const uint8_t *, size_t);
 
 static int silent;
+static bool unsynced;   /* bytes of a file were written, and not synced since */
+static char named[300]; /* the last name that a file got, which its folder must have when it is synced */
 
 /* From 0 to n - 1, by the seed; n - 1 without one. */
 static size_t below(size_t n)
@@ -98,6 +102,15 @@ static size_t part(size_t n)
     return below(2) == 0 && n > 0 ? 1 + below(n) : n;
 }
 
+/* A file gets a name: all of it is on the disk. */
+static void gets_name(const char *name)
+{
+    const char *slash = strrchr(name, '/');
+    if (unsynced)
+        abort();
+    snprintf(named, sizeof named, "%s", slash == NULL ? name : slash + 1);
+}
+
 static bool is_file(int fd)
 {
     struct stat s;
@@ -123,6 +136,7 @@ ssize_t __wrap_write(int fd, const void *from, size_t n)
     const bool file = is_file(fd);
     if (file && fails("write"))
         return -1;
+    unsynced |= file;
     if (below(8) == 0)
         return with(EINTR);
     if (!file && silence())
@@ -145,7 +159,13 @@ int __wrap_fsync(int fd)
 {
     if (fails("fsync"))
         return -1;
-    return below(4) == 0 ? with(EINTR) : __real_fsync(fd);
+    if (below(4) == 0)
+        return with(EINTR);
+    if (is_file(fd))
+        unsynced = false;
+    else if (named[0] != 0 && faccessat(fd, named, F_OK, 0) < 0)
+        abort(); /* another folder */
+    return __real_fsync(fd);
 }
 
 int __wrap_open(const char *path, int flags, ...)
@@ -168,6 +188,14 @@ int __wrap_openat(int folder, const char *name, int flags, ...)
 
 int __wrap_linkat(int from, const char *name, int to, const char *new_name, int flags)
 {
+    const char *replaced = getenv("REPLACED");
+    gets_name(new_name);
+    if (replaced != NULL) {
+        __real_unlinkat(to, replaced, 0);
+        const int file = __real_openat(to, replaced, O_WRONLY | O_CREAT | O_EXCL, 0666);
+        if (file < 0 || __real_write(file, "x", 1) != 1 || close(file) < 0)
+            abort();
+    }
     return fails("linkat") ? -1 : __real_linkat(from, name, to, new_name, flags);
 }
 
@@ -178,6 +206,7 @@ int __wrap_unlinkat(int folder, const char *name, int flags)
 
 int __wrap_renameat(int from, const char *name, int to, const char *new_name)
 {
+    gets_name(new_name);
     return fails("renameat") ? -1 : __real_renameat(from, name, to, new_name);
 }
 

@@ -218,4 +218,39 @@ mod tests {
         let none = NameList::new::<&str>(&[]).unwrap();
         assert_eq!(none.before(), (vec![0; 8], &[][..]));
     }
+
+    /// Slots at random, with lengths and starts in each byte of their numbers: `before` is what version 0.4.0 wrote, by its rule.
+    #[test]
+    fn as_0_4_0_wrote_them() {
+        let mut rng = device::Rng::new(9);
+        for n in (0..=SLOTS).chain([SLOTS; 20]) {
+            let images: Vec<Option<Vec<u8>>> = (0..n)
+                .map(|_| {
+                    (!rng.chance(200)).then(|| vec![7; [0, 0, 1, 256, 65_536, rng.below(70_000) as usize][rng.below(6) as usize]])
+                })
+                .collect();
+            let (mut starts, mut lens, mut data) = (vec![], vec![], vec![]);
+            for image in &images {
+                starts.push(match image.as_deref() {
+                    None => ABSENT,
+                    Some([]) => 0,
+                    Some(_) => data.len() as u32,
+                });
+                lens.push(image.as_ref().map_or(0, |i| i.len() as u32));
+                data.extend(image.iter().flatten());
+            }
+            let head = words(&[&[n as u32, data.len() as u32][..], &starts, &lens].concat());
+            let set = ImageSet::new(&images).unwrap();
+            assert_eq!(set.before(), (head, &data[..]));
+            if images.iter().all(Option::is_some) {
+                let list: Vec<_> = images.iter().flatten().collect();
+                assert_eq!(NameList::new(&list).unwrap().before(), set.before());
+            }
+            let elsewhere = set.bytes()[..8 + 8 * n].to_vec();
+            assert_eq!(ImageSet::from_bytes(set.bytes().to_vec()).unwrap().before().0, elsewhere);
+            if let Ok(list) = NameList::from_bytes(set.bytes().to_vec()) {
+                assert_eq!(list.before().0, elsewhere);
+            }
+        }
+    }
 }

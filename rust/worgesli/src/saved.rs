@@ -389,6 +389,10 @@ mod tests {
         let other = |options: &Options, set: &[u8], names: &[u8]| {
             assert_eq!(options.restore(&of(set, names)).unwrap_err(), RestoreError::OtherBundles);
         };
+        // where the images alone, or the names alone, have an empty one
+        let alone = options.clone().names(["n"]);
+        let list = alone.bundles().unwrap().1;
+        assert!(alone.restore(&of(&set, list.bytes())).is_ok());
         // no version wrote one so and the other otherwise, nor an empty image elsewhere
         other(&options, &set, now_names);
         other(&options, now_set, &names);

@@ -47,7 +47,7 @@ pub fn tidy_len(set: &[u8]) -> Result<usize, Refusal> {
 }
 
 impl ImageSet {
-    /// The set's [tidy](tidy()) form. Refused: 29.
+    /// The set's [tidy](tidy()) form. For a moment it is held twice. Refused: 29.
     pub fn tidied(&self) -> Result<ImageSet, Refusal> {
         ImageSet::from_bytes(tidy(self.bytes())?)
     }

@@ -906,7 +906,7 @@ fn bundles() {
     for n in (0..=64).chain([1, 1, 1, 2, 2, 2, 3, 3, 3, 64, 64, 64]) {
         let slots: Vec<Option<Vec<u8>>> = (0..n)
             .map(|_| {
-                let len = [0, 1, rng.below(20), rng.below(5000)][rng.below(4) as usize];
+                let len = [0, 1, rng.below(20), rng.below(50_000)][rng.below(4) as usize];
                 let mut bytes = vec![0; len as usize];
                 rng.fill(&mut bytes);
                 (rng.below(4) > 0).then_some(bytes)
@@ -1074,7 +1074,7 @@ fn tidied_elsewhere() {
             assert!(fs::read(folder.0.join(to)).unwrap() == tidied());
         }
         assert_eq!(folder.files().into_keys().collect::<Vec<_>>(), ["again", "tidy"]);
-        for (mask, mode) in [("022", 0o644), ("077", 0o600)] {
+        for (mask, mode) in [("022", 0o644), ("077", 0o600), ("000", 0o666)] {
             assert_eq!(Said::by(&mut tidy_under(program, &folder, &format!("umask {mask};"), "")).status, Some(0));
             assert_eq!(fs::metadata(folder.0.join("tidy")).unwrap().permissions().mode() & 0o777, mode);
             fs::remove_file(folder.0.join("tidy")).unwrap();
@@ -1167,7 +1167,7 @@ fn nothing_is_tidied_over() {
             ("link", "tidy: link: File exists"),
             ("set", "tidy: set: File exists"),
             (".", "tidy: .: File exists"),
-            ("begun", "tidy: begun.part: File exists"),
+            ("begun", "tidy: begun.part: File exists: another call is writing it, or was killed"),
         ] {
             let said = Said::by(&mut tidy(program, &folder, "set", to));
             assert!(said.status == Some(1) && said.out.is_empty() && said.error.starts_with(why), "{to}: {said:?}");
@@ -1189,7 +1189,7 @@ fn tidied_side_by_side() {
         calls.into_iter().map(|c| c.join().unwrap()).collect()
     });
     assert_eq!(said.iter().filter(|s| s.status == Some(0)).count(), 1, "{said:?}");
-    assert!(said.iter().all(|s| s.status == Some(0) || s.error.contains(": File exists\n")), "{said:?}");
+    assert!(said.iter().all(|s| s.status == Some(0) || s.error.contains(": File exists")), "{said:?}");
     let files = files_of(&folder.0);
     assert!(files.len() == 2 && files["tidy"] == ImageSet::new(&vec![Some(vec![7; 200_000]); 20]).unwrap().bytes());
 }
@@ -1224,12 +1224,47 @@ fn tidy_calls_that_fail() {
         let mut call = tidy(program, &folder, "set", "tidy");
         made(call.env("FAIL", format!("{name}:{}:{error}", calls + 1)), &folder, form.bytes());
     }
-    let folder = folder_with(&set);
-    let said = Said::by(tidy(program, &folder, "set", "tidy").env("FAIL", "unlinkat:1:5"));
-    assert_eq!((said.status, said.out.as_str()), (Some(1), ""));
-    for name in ["tidy", "tidy.part"] {
-        assert!(said.error.contains(&format!("tidy: it could NOT be removed: {name}: Input/output error\n")), "{said:?}");
-        assert!(files_of(&folder.0)[name] == form.bytes());
+    // to look whether TIDY is there is the first; the others, whether a name is still that of the file
+    for fail in ["unlinkat:1:5", "fstatat:2:5"] {
+        let folder = folder_with(&set);
+        let said = Said::by(tidy(program, &folder, "set", "tidy").env("FAIL", fail));
+        assert_eq!((said.status, said.out.as_str()), (Some(1), ""));
+        for name in ["tidy", "tidy.part"] {
+            assert!(said.error.contains(&format!("tidy: it could NOT be removed: {name}: Input/output error\n")), "{said:?}");
+            assert!(files_of(&folder.0)[name] == form.bytes());
+        }
+    }
+}
+
+/// TIDY.part is removed while it is written, and another call begins its own: that one gets no name from this, and is not taken away.
+#[test]
+fn tidied_while_another_begins() {
+    let Some(program) = TIDY.built(Build::Checked) else { return };
+    for more in ["", "linkat:1:5"] {
+        let folder = folder_with(&untidy());
+        let said = Said::by(tidy(program, &folder, "set", "tidy").env("REPLACED", "tidy.part").env("FAIL", more));
+        assert_eq!((said.status, said.out.as_str()), (Some(1), ""), "{said:?}");
+        let files = files_of(&folder.0);
+        assert!(files.len() == 2 && files["set"] == untidy() && files["tidy.part"] == b"x", "{files:?}");
+    }
+}
+
+/// Nobody hears that it is made: it is, and where it could be told that nobody heard, that is.
+#[test]
+fn tidied_with_nobody_listening() {
+    for (_, program) in tidies() {
+        let (near, far) = UnixStream::pair().unwrap();
+        drop(far);
+        for to in [OwnedFd::from(near), File::create("/dev/full").unwrap().into()] {
+            let folder = folder_with(&untidy());
+            let call = tidy(program, &folder, "set", "tidy").stdout(to).output().unwrap();
+            let said = String::from_utf8(call.stderr).unwrap();
+            assert!(
+                call.status.code() == Some(0) && said.starts_with("tidy: it is written, and that could not be said: "),
+                "{said}"
+            );
+            assert!(files_of(&folder.0)["tidy"] == tidied());
+        }
     }
 }
 
@@ -1260,8 +1295,16 @@ fn sets_above_the_memory() {
         assert!((said.status, said.out.as_str()) == (Some(1), "") && said.error.starts_with(why), "{said:?}");
         assert_eq!(fs::read_dir(&folder.0).unwrap().count(), 1);
     }
-    let folder = folder_with(&[&[1, 0, 0, 0, 255, 255, 255, 255][..], &[0; 300]].concat());
+    let folder = folder_with(&[&[1, 0, 0, 0, 255, 255, 255, 255][..], &[0; 100_000]].concat());
     not_tidied(&mut tidy_under(program, &folder, limit, ""), &folder, SET_WORDS);
+    // of what has too many slots no more is asked for
+    let folder = folder_with(&[]);
+    fs::remove_file(folder.0.join("set")).unwrap();
+    std::os::unix::fs::symlink("/dev/stdin", folder.0.join("set")).unwrap();
+    let endless = format!("{limit} tr '\\000' '\\377' </dev/zero |");
+    let said = Said::by(&mut tidy_under(program, &folder, &endless, ""));
+    assert!(said.status == Some(1) && said.error.contains(SET_WORDS), "{said:?}");
+    assert_eq!(fs::read_dir(&folder.0).unwrap().count(), 1);
 }
 
 #[test]

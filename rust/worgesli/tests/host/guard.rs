@@ -132,18 +132,22 @@ fn stray_bytes_are_seen() {
         // Not safe: that is the point.
         unsafe { std::ptr::read_volatile(g.as_ptr().offset(past)) }
     };
-    let hidden = || {
-        let (at, len) = Beginning::new(&[7; 100], 1 << 33).parts();
+    let hidden = |last: bool| {
+        let beginning = Beginning::new(&[7; 100], 1 << 33);
+        let (at, len) = beginning.parts();
         // Not safe: the same.
-        (unsafe { std::ptr::read_volatile(at.add(99)) }, unsafe { std::ptr::read_volatile(at.add(len - 1)) })
+        unsafe { std::ptr::read_volatile(at.add(if last { len - 1 } else { 99 })) }
     };
     match std::env::var(NAME).as_deref() {
-        Ok("hidden") => assert_eq!(hidden().0, 7),
+        Ok("hidden") => assert_eq!(hidden(true), 0),
+        Ok("shown") => assert_eq!(hidden(false), 7),
         Ok("behind") => assert_eq!(stray(Side::Behind, 100), 0),
         Ok("before") => assert_eq!(stray(Side::Before, -1), 0),
         Ok("within") => assert_eq!(stray(Side::Behind, 99), 7),
         _ => {
-            for (what, signal) in [("behind", Some(11)), ("before", Some(11)), ("hidden", Some(11)), ("within", None)] {
+            for (what, signal) in
+                [("behind", Some(11)), ("before", Some(11)), ("hidden", Some(11)), ("shown", None), ("within", None)]
+            {
                 let exe = std::env::current_exe().unwrap();
                 let args = ["--exact", "guard::stray_bytes_are_seen"];
                 let run = std::process::Command::new(exe).args(args).env(NAME, what).output().unwrap();

@@ -109,12 +109,34 @@ fn damaged_and_foreign_bytes() {
     }
 }
 
+fn bytes_of(hex: &str) -> Vec<u8> {
+    let digits: String = hex.split_whitespace().collect();
+    (0..digits.len()).step_by(2).map(|i| u8::from_str_radix(&digits[i..i + 2], 16).unwrap()).collect()
+}
+
+/// Runs that version 0.4.0 saved, with an empty image and no empty name, and the other way round: they go on, with these alone, and are saved in the form of today.
+#[test]
+fn saved_by_0_4_0_with_an_empty_slot() {
+    let images = vec![Some(vec![7; 70_000]), Some(vec![]), None, Some(vec![1; 256])];
+    let cases = [(images, vec![]), (vec![Some(b"ab".to_vec())], vec!["a", "", "b"])];
+    for (hex, (images, names)) in include_str!("form-2.hex").split("\n\n").zip(cases) {
+        let (saved, options) = (bytes_of(hex), Options::new(Backend::Usb, Mode::WaitingForImage).images(&images).names(&names));
+        let again = options.restore(&saved).unwrap().save();
+        // but for the digest of the bundles, and that of it all
+        let same = |part: std::ops::Range<usize>| again[part.clone()] == saved[part];
+        assert!(again.len() == saved.len() && same(0..16) && !same(16..48) && same(48..saved.len() - 32));
+        assert_eq!(options.restore(&again).unwrap().save(), again);
+        for other in [options.clone().names(["other"]), options.clone().images(&[Some(vec![])])] {
+            assert_eq!(other.restore(&saved).unwrap_err(), RestoreError::OtherBundles);
+        }
+    }
+}
+
 /// A run of the crate before, which knew devices of 64 bits alone, saved when 200 bytes of a region had come and 150 were the sink's: it goes on to
 /// its end, and is saved in the form of today.
 #[test]
 fn saved_in_the_form_before() {
-    let digits: String = include_str!("form-1.hex").split_whitespace().collect();
-    let saved: Vec<u8> = (0..digits.len()).step_by(2).map(|i| u8::from_str_radix(&digits[i..i + 2], 16).unwrap()).collect();
+    let saved = bytes_of(include_str!("form-1.hex"));
     let base = 1 << 32;
     let regions = vec![Region::new("A.BIN", 7, 5000), Region::new("B.BIN", base, 5000)];
     let table = regions.iter().flat_map(|r| r.bytes(Width::Bits64)).collect();
