@@ -141,7 +141,9 @@ static void open_folder(void)
         stop(f.tidy, NULL);
     strcpy(path, f.tidy), strcat(path, ".part");
     f.part_name = path + n, f.tidy_name = f.tidy + n;
-    struct stat there; /* it would be found later too, behind all the work */
+    struct stat there; /* these would be found later too, behind all the work */
+    if (f.tidy_name[0] == 0)
+        stop(f.tidy, strerror(ENOENT));
     if (fstatat(f.folder, f.tidy_name, &there, AT_SYMLINK_NOFOLLOW) == 0)
         stop(f.tidy, strerror(EEXIST));
 }

@@ -52,6 +52,7 @@ abbrev pub placed : List ℕ → List ℕ → Tidied → TidyOutcome
 placed form to (T.Refused why) = tidyOutcome (T.Refused why) to
 placed form to (T.Made k) = pick (ltb (length to) k) (tidyOutcome (T.Refused 29) to) (tidyOutcome (T.Made k) (form ++ drop k to))
 
+-- the tidy form of a set in a buffer
 unfoldable pub tidyOf : List ℕ → List ℕ → TidyOutcome
 tidyOf set to = placed (tidyBytes set) to (tidyLenOf set)
 

@@ -15,6 +15,7 @@ use Rattle.bundle.specs.declared.Slot.the-variants.{At, Absent, Missing}
 abbrev pub Content : Type 0
 Content = Option (List ℕ)
 
+-- whether it is present, its bytes, and how many they are
 abbrev pub isPresent : Content → Bool
 isPresent none = false
 isPresent (some s) = true
@@ -50,6 +51,7 @@ abbrev pub startFor : ℕ → Content → ℕ
 startFor before none = 0xFFFFFFFF
 startFor before (some s) = before
 
+-- the starts of slots one behind the other, so many bytes standing before the first
 unfoldable pub startsFrom : ℕ → List Content → List ℕ
 startsFrom before [] = []
 startsFrom before (x ∷ xs) = startFor before x ∷ startsFrom (before + sizeIn x) xs
