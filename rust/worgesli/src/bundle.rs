@@ -45,11 +45,11 @@ fn bundle<'a>(slots: impl ExactSizeIterator<Item = Option<&'a [u8]>> + Clone) ->
 #[derive(Clone)]
 struct Bundle {
     bytes: Arc<[u8]>,
-    /// by this crate, and not elsewhere
+    /// by this crate, and not elsewhere: version 0.4.0 may have written it otherwise
     written: bool,
 }
 
-/// Of whoever made them.
+/// By the bytes alone, whoever made them.
 impl PartialEq for Bundle {
     fn eq(&self, other: &Bundle) -> bool {
         self.bytes == other.bytes
