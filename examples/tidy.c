@@ -1,12 +1,13 @@
-/* Writes the tidy form of an image set to a new file: sets with the same images have the same one.
+/* Writes the tidy form of an image set to a new file: sets of as many slots with the same images have the same one, and a device is served the same from
+ * either file.
  *
  *     tidy SET TIDY
  *
  * SET is a file, or a pipe (/dev/stdin), with an image set; it is only read. TIDY gets the form: it is written as TIDY.part, and has its name only when it is
  * whole and on the disk. Nothing that is there is written over, so that TIDY is not SET. TIDY and its length go to standard output, and the exit status is 0;
  * 2 for a wrong call, else 1: it is told why, and nothing that was made is left behind. (A process that is killed may leave TIDY.part: remove it before the
- * next.) Set and form are both held in memory; where slots share bytes, the form may be far longer than the set. Where slot 0 alone is left, it serves every
- * ID: a set of more slots did not. TIDY gets its name by a hard link, through /proc: on a file system that has none (FAT) it cannot be made, which is told.
+ * next.) Set and form are both held in memory; where slots share bytes, the form may be far longer than the set. TIDY gets its name by a hard link, through
+ * /proc: on a file system that has none (FAT) it cannot be made, which is told.
  */
 #define _POSIX_C_SOURCE 200809L
 #include <errno.h>

@@ -20,7 +20,7 @@
  *
  * A bundle: slot count n (at most WORGESLI_SLOTS) and data size, 4 bytes each; n starts, n lengths, 4 bytes each; the data. Numbers are little-endian, a
  * start counts from the data's beginning, ranges may overlap, and nothing follows the data. Start 0xFFFFFFFF with length 0: the slot is absent, which an
- * image set may have and a name list not. worgesli_bundle makes one. The slot of an image is its ID; where there is one slot, it serves every ID. A name
+ * image set may have and a name list not. worgesli_bundle makes one. The slot of an image is its ID; where n is 1, slot 0 serves every ID. A name
  * selects the regions whose filename up to its first '.' is the same but for case ("ocimem": OCIMEM.BIN; where a filename has no '.', all its 20 bytes, zeros
  * too); no names: those that the device prefers.
  */
@@ -315,15 +315,17 @@ worgesli_sheet worgesli_region_sheet(const uint8_t *table, size_t table_len, uin
  * Archives of number 2 from before this function do not have it: who uses dlopen looks. */
 worgesli_forecast worgesli_forecast_table(const uint8_t *table, size_t table_len, uint64_t width, const uint8_t *names, size_t names_len);
 
-/* The tidy form of an image set, so that equal sets have equal files. Two sets are equal if each ID below WORGESLI_SLOTS, looked up as a plain slot (a single
- * slot serves its own ID alone here), has the same bytes in both or is absent in both; an empty image is not absent. Just then are their tidy forms the same
- * bytes, where neither is refused. The form is an image set itself: the data in slot order, each present image's bytes once for its slot, also where slots
- * share them, without gaps; an empty image starts where the bytes before it end; an absent slot has its mark, and those behind the last present one are
- * dropped. Of a set without an image it is 8 zero bytes. Tidied again it stays as it is. Where slot 0 alone is left, it serves every ID, as in each set of one.
+/* The tidy form of an image set, so that equal sets have equal files. Two sets are equal if they have as many slots, and each slot has the same bytes in both or
+ * is absent in both; an empty image is not absent. Just then are their tidy forms the same bytes, where neither is refused. The form is an image set itself, of
+ * as many slots: the data in slot order, each present image's bytes once for its slot, also where slots share them, without gaps; an empty image starts where
+ * the bytes before it end; an absent slot has its mark, behind the last present one too. Of n slots without an image it is n, 0, n marks and n zeros. Tidied
+ * again it stays as it is. A device gets the same answers and image bytes from a set and from its tidy form, in any session, if each step is lent all else
+ * alike: only where an image starts in its set (`first` of WORGESLI_ANSWER_IMAGE) is another number.
  * It is written to `to` from its first byte on, and what is behind it there is as it was. 28 where the set is malformed, which is looked at first; else 29 where
  * the form is longer than `to`, or has more than 2^32 - 2 data bytes (an empty image must not start at the mark of an absent one): then all of `to` is as it
  * was. Since shared bytes are written for each slot, it may be far longer than the set: worgesli_tidy_len tells.
- * Archives of number 2 from before this function and the next do not have them: who uses dlopen looks. */
+ * Older archives of number 2 do not have this function and the next, or drop absent slots behind the last present one (so that the length of the tidy form of
+ * one absent slot, 16 bytes, is told as 8): who uses dlopen looks. */
 worgesli_tidied worgesli_tidy(const uint8_t *set, size_t set_len, uint8_t *to, size_t to_len);
 
 /* How long the tidy form is, for who allocates. 28 where the set is malformed; else 29, only for more than 2^32 - 2 data bytes. */
@@ -409,7 +411,7 @@ static inline void worgesli_put(uint8_t *to, uint64_t number)
 }
 
 /* Makes a bundle of n slots, one behind the other, and gives its length: written to `to` where it fits, and where it does not, or `to` is NULL, nothing is.
- * An empty slot starts where the bytes before it end: where the last slot is not absent, these are the bytes of a tidy form (worgesli_tidy).
+ * An empty slot starts where the bytes before it end: these are the bytes of a tidy form (worgesli_tidy).
  * 0: there is none, for more than 64 slots, more than 2^32 - 2 data bytes (so that no empty slot starts at the mark of an absent one), a slot that is NULL and
  * has a length, or slots NULL where n is not 0. */
 static inline size_t worgesli_bundle(const worgesli_slot *slots, size_t n, uint8_t *to, size_t to_len)

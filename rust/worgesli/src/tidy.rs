@@ -1,12 +1,13 @@
-//! Tidy image sets: one form for all that have the same images.
+//! Tidy image sets: one form for all of as many slots that have the same images.
 use crate::{raw, ImageSet, Refusal};
 
 /// The tidy form of an image set's bytes. Equal sets, and no others, have the same.
 ///
-/// Two sets are equal if each ID below 64, looked up as a plain slot, has the same bytes in both or is absent in both. An empty image is not absent. The form is
-/// an image set itself: the data in slot order, each present image's bytes once for its slot, also where slots share them, without gaps; an empty image starts
-/// where the bytes before it end; absent slots are marked, and those behind the last present one are dropped. Tidied again it stays as it is. Where slot 0 alone
-/// is left, a device that asks for any ID is served it, as from each set of one slot.
+/// Two sets are equal if they have as many slots, and each slot has the same bytes in both or is absent in both. An empty image is not absent. The form is an
+/// image set itself, of as many slots: the data in slot order, each present image's bytes once for its slot, also where slots share them, without gaps; an empty
+/// image starts where the bytes before it end; absent slots are marked, those behind the last present one too. Tidied again it stays as it is. A device gets the
+/// same answers and image bytes from a set and from its tidy form, in any session, if each step is lent all else alike: only where an image starts in its set is
+/// another number.
 ///
 /// Refused: 28 where the set is malformed; else 29 where there are more than 2^32 - 2 data bytes. Since shared bytes are written for each slot, the form may be
 /// far longer than the set. Where there is no memory for it, the process ends, as with each `Vec`: who wants to bear that asks [`tidy_len`], and lends a buffer
@@ -18,11 +19,16 @@ use crate::{raw, ImageSet, Refusal};
 /// // four slots over the same four bytes: "abcd", "cd", an empty image, none
 /// let set = [words(&[4, 4, 0, 2, 1, u32::MAX, 4, 2, 0, 0]), b"abcd".to_vec()].concat();
 /// let tidied = tidy(&set)?;
-/// assert_eq!(tidied, [words(&[3, 6, 0, 4, 6, 4, 2, 0]), b"abcdcd".to_vec()].concat());
+/// assert_eq!(tidied, [words(&[4, 6, 0, 4, 6, u32::MAX, 4, 2, 0, 0]), b"abcdcd".to_vec()].concat());
 /// assert_eq!(tidy(&tidied)?, tidied);
 /// // as this crate writes it
-/// let images = ["abcd", "cd", ""].map(|image| Some(image.into()));
+/// let images = [Some("abcd"), Some("cd"), Some(""), None].map(|image| image.map(Into::into));
 /// assert_eq!(ImageSet::new(&images)?.bytes(), tidied);
+/// // an image alone is served under every ID; with an absent slot behind it, under its own
+/// let image = || Some(b"loader".to_vec());
+/// let (one, two) = (ImageSet::new(&[image()])?.tidied()?, ImageSet::new(&[image(), None])?.tidied()?);
+/// assert_eq!((one.image_range(1, 0, 6)?, two.image_range(0, 0, 6)?), (&b"loader"[..], &b"loader"[..]));
+/// assert_eq!(two.image_range(1, 0, 6).unwrap_err().number(), 12);
 /// # Ok::<(), worgesli::Refusal>(())
 /// ```
 pub fn tidy(set: &[u8]) -> Result<Vec<u8>, Refusal> {
