@@ -9,7 +9,7 @@ const EMPTY: [u8; 8] = [0; 8];
 const BAD: [u8; 8] = [65, 0, 0, 0, 0, 0, 0, 0];
 
 /// A step of the session in place; and by value, in buffers of its own, which must come to the same.
-fn step(
+pub fn step(
     s: raw::Session,
     delivery: &[u8],
     set: &[u8],
@@ -109,7 +109,7 @@ fn malformed_bundles() {
 }
 
 /// Numbers that are a session or nearly one.
-fn numbers(rng: &mut Rng) -> raw::Session {
+pub fn numbers(rng: &mut Rng) -> raw::Session {
     let small = |rng: &mut Rng| match rng.below(8) {
         0 => rng.number(),
         1 => u64::MAX - rng.below(3),

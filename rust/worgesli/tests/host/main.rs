@@ -16,6 +16,7 @@ mod sheet;
 mod sheet_files;
 mod steps;
 mod tidy;
+mod tidy_steps;
 mod told;
 mod widths;
 mod world;

@@ -1,4 +1,4 @@
-//! Tidy image sets: the function beside forms written out, a model of the request and this crate's own bundles, on sets at random.
+//! Tidy image sets: the function beside forms written out, a model of the requests and this crate's own bundles, on sets at random.
 use crate::bad_input::{well_formed, word};
 use crate::guard::{Beginning, Guarded, Side};
 use device::Rng;
@@ -6,9 +6,9 @@ use std::collections::BTreeMap;
 use worgesli::{raw, tidy, tidy_into, tidy_len, ImageSet, NameList, SLOTS};
 
 /// A slot's start and length.
-type Slot = (u32, u32);
+pub type Slot = (u32, u32);
 
-const ABSENT: Slot = (u32::MAX, 0);
+pub const ABSENT: Slot = (u32::MAX, 0);
 const SIDES: [Side; 2] = [Side::Behind, Side::Before];
 
 /// A bundle's numbers: the size of its data, and the slots.
@@ -17,14 +17,14 @@ fn head(data: u32, slots: &[Slot]) -> Vec<u8> {
     numbers.flat_map(u32::to_le_bytes).collect()
 }
 
-fn set(slots: &[Slot], data: &[u8]) -> Vec<u8> {
+pub fn set(slots: &[Slot], data: &[u8]) -> Vec<u8> {
     [&head(data.len() as u32, slots)[..], data].concat()
 }
 
-// ---- the request's words
+// ---- the requests' words
 
 /// What each slot of a well-formed set has: bytes, or None where it is absent.
-fn slots(set: &[u8]) -> Vec<Option<&[u8]>> {
+pub fn slots(set: &[u8]) -> Vec<Option<&[u8]>> {
     let n = set[0] as usize;
     let slot = |i| match (word(set, 8 + 4 * i), word(set, 8 + 4 * (n + i))) {
         (0xffff_ffff, 0) => None,
@@ -34,18 +34,19 @@ fn slots(set: &[u8]) -> Vec<Option<&[u8]>> {
 }
 
 /// Whether each ID below 64, looked up as a plain slot, has the same bytes in both or is absent in both.
-fn equal(a: &[Option<&[u8]>], b: &[Option<&[u8]>]) -> bool {
+fn alike(a: &[Option<&[u8]>], b: &[Option<&[u8]>]) -> bool {
     let looked_up = |slots: &[Option<&[u8]>], id: usize| slots.get(id).copied().flatten().map(<[u8]>::to_vec);
     (0..64).all(|id| looked_up(a, id) == looked_up(b, id))
 }
 
-/// Data in slot order, each present image's bytes once for its slot, no gaps, an empty image starting where the bytes before it end, absent slots marked,
-/// trailing absent slots dropped.
+/// Whether their slot counts agree too.
+fn equal(a: &[Option<&[u8]>], b: &[Option<&[u8]>]) -> bool {
+    a.len() == b.len() && alike(a, b)
+}
+
+/// Data in slot order, each present image's bytes once for its slot, no gaps, an empty image starting where the bytes before it end, absent slots marked, as many
+/// slots as there were.
 fn form(slots: &[Option<&[u8]>]) -> Vec<u8> {
-    let mut slots = slots.to_vec();
-    while slots.last() == Some(&None) {
-        slots.pop();
-    }
     let (mut data, mut ranges) = (Vec::new(), Vec::new());
     for slot in slots {
         ranges.push(slot.map_or(ABSENT, |image| (data.len() as u32, image.len() as u32)));
@@ -84,16 +85,17 @@ fn held(set: &Guarded, room: usize, side: Side) -> Result<Vec<u8>, u32> {
 
 #[test]
 fn forms_by_hand() {
-    let rows: [(&[Slot], &str, &[Slot], &str); 17] = [
+    let rows: [(&[Slot], &str, &[Slot], &str); 19] = [
         // nothing, and none that is there
         (&[], "", &[], ""),
         (&[], "gap", &[], ""),
-        (&[ABSENT; 3], "gap", &[], ""),
+        (&[ABSENT], "", &[ABSENT], ""),
+        (&[ABSENT; 3], "gap", &[ABSENT; 3], ""),
         // an empty image is not absent, wherever it starts
         (&[(0, 0)], "", &[(0, 0)], ""),
         (&[(3, 0)], "abc", &[(0, 0)], ""),
         (&[(3, 0), (1, 2), (0, 0)], "abc", &[(0, 0), (0, 2), (2, 0)], "bc"),
-        (&[ABSENT, (0, 0), ABSENT], "", &[ABSENT, (0, 0)], ""),
+        (&[ABSENT, (0, 0), ABSENT], "", &[ABSENT, (0, 0), ABSENT], ""),
         (&[(0, 3), (3, 0), (3, 0)], "abc", &[(0, 3), (3, 0), (3, 0)], "abc"),
         // gaps at each end and between
         (&[(1, 2), (4, 1)], "-ab-c-", &[(0, 2), (2, 1)], "abc"),
@@ -105,9 +107,10 @@ fn forms_by_hand() {
         // the same bytes twice in the data
         (&[(0, 2), (2, 2)], "abab", &[(0, 2), (2, 2)], "abab"),
         // absent before, between and behind
-        (&[ABSENT, (0, 1), ABSENT, ABSENT, (0, 1), ABSENT], "a", &[ABSENT, (0, 1), ABSENT, ABSENT, (1, 1)], "aa"),
-        (&[(0, 1), ABSENT], "a", &[(0, 1)], "a"),
-        (&[(0, 1), ABSENT, (1, 0), ABSENT], "ab", &[(0, 1), ABSENT, (1, 0)], "a"),
+        (&[ABSENT, (0, 1), ABSENT, ABSENT, (0, 1), ABSENT], "a", &[ABSENT, (0, 1), ABSENT, ABSENT, (1, 1), ABSENT], "aa"),
+        (&[(0, 1), ABSENT], "a", &[(0, 1), ABSENT], "a"),
+        (&[(1, 1), ABSENT, ABSENT], "ab", &[(0, 1), ABSENT, ABSENT], "b"),
+        (&[(0, 1), ABSENT, (1, 0), ABSENT], "ab", &[(0, 1), ABSENT, (1, 0), ABSENT], "a"),
         // tidy already
         (&[(0, 1), (1, 0), ABSENT, (1, 2)], "abc", &[(0, 1), (1, 0), ABSENT, (1, 2)], "abc"),
     ];
@@ -118,14 +121,18 @@ fn forms_by_hand() {
         assert_eq!(tidy(&due), Ok(due));
     }
     assert_eq!(tidy(&[0; 8]).unwrap(), [0; 8]);
-    let absent = ImageSet::new(&vec![None; SLOTS]).unwrap();
-    assert_eq!(absent.tidied().unwrap().bytes(), [0; 8]);
+    // n slots without an image: n, 0, n marks, n zeros
+    for n in 0..=SLOTS {
+        let due = [&[n as u8, 0, 0, 0, 0, 0, 0, 0][..], &vec![0xff; 4 * n], &vec![0; 4 * n]].concat();
+        assert_eq!(ImageSet::new(&vec![None; n]).unwrap().tidied().unwrap().bytes(), due);
+        assert_eq!(tidy(&set(&vec![ABSENT; n], b"gap")), Ok(due));
+    }
 }
 
 // ---- at random
 
 /// A set at random: gaps, ranges that are shared or overlap, empty images wherever they start, absent slots between others and at the end.
-fn random(rng: &mut Rng) -> Vec<u8> {
+pub fn random(rng: &mut Rng) -> Vec<u8> {
     let n = [0, 1, 2, 3, 63, 64, rng.below(65), rng.below(65)][rng.below(8) as usize] as usize;
     let mut data = vec![0; [0, 1, rng.below(8), rng.below(40), rng.below(500)][rng.below(5) as usize] as usize];
     rng.fill(&mut data);
@@ -214,8 +221,8 @@ fn sets_at_random() {
     assert!(counts.len() == SLOTS + 1 && counts.values().all(|n| *n > 20), "{counts:?}");
 }
 
-/// The form is what this crate's bundles are, of the images as they are looked up, without the absent ones behind the last; tidied again it is the same; and a
-/// device is served from it as before, where neither set is of one slot, which would serve every ID.
+/// The form is what this crate's bundles are, of the images as they are looked up; so these are tidy, absent slots at their end too. Tidied again it is the same,
+/// and each ID is looked up in it as before.
 #[test]
 fn as_bundles_are_written() {
     let mut rng = Rng::new(62);
@@ -223,24 +230,17 @@ fn as_bundles_are_written() {
     for _ in 0..6000 {
         let set = ImageSet::from_bytes(random(&mut rng)).unwrap();
         let images: Vec<Option<Vec<u8>>> = slots(set.bytes()).into_iter().map(|image| image.map(Vec::from)).collect();
-        let present = images.iter().rposition(Option::is_some).map_or(0, |i| i + 1);
-        let tidied = set.tidied().unwrap();
-        assert_eq!(tidied.bytes(), ImageSet::new(&images[..present]).unwrap().bytes());
-        assert_eq!(ImageSet::new(&images).unwrap().tidied().unwrap(), tidied);
+        let (tidied, written) = (set.tidied().unwrap(), ImageSet::new(&images).unwrap());
+        assert_eq!((tidied.bytes(), tidied.bytes()[0]), (written.bytes(), set.bytes()[0]));
+        assert_eq!(written.tidied().unwrap().bytes(), written.bytes());
         assert_eq!((tidied.tidied().unwrap(), raw::check_images(tidied.bytes())), (tidied.clone(), 0));
         if images.iter().all(Option::is_some) {
             assert_eq!(NameList::new(&images.into_iter().flatten().collect::<Vec<_>>()).unwrap().bytes(), tidied.bytes());
         }
-        let (before, after) = (set.bytes()[0], tidied.bytes()[0]);
         for _ in 0..20 {
-            let id = if before == 1 || after == 1 {
-                0
-            } else {
-                [rng.below(u64::from(before) + 2), rng.number()][rng.below(8) as usize / 7]
-            };
+            let id = [rng.below(u64::from(set.bytes()[0]) + 2), rng.number()][rng.below(8) as usize / 7];
             let mut some = || [0, 0, rng.below(4), rng.below(set.bytes().len() as u64)][rng.below(4) as usize];
             let (offset, len) = (some(), some());
-            // a set without a slot has none of ID 0, and one whose slots are all absent neither
             let range = tidied.image_range(id, offset, len);
             assert_eq!(range, set.image_range(id, offset, len), "{id}, {offset}, {len} of {:?}", set.bytes());
             served[range.map_or_else(|why| why.number() as usize - 11, |_| 0)] += 1;
@@ -319,12 +319,16 @@ fn equal_sets() {
             other = changed(&mut rng, &other);
         }
         let (a, b) = (laid_out(&mut rng, &images), laid_out(&mut rng, &other));
-        let equal = equal(&slots(&a), &slots(&b));
+        let (of_a, of_b) = (slots(&a), slots(&b));
+        let equal = equal(&of_a, &of_b);
         assert_eq!(tidy(&a).unwrap() == tidy(&b).unwrap(), equal, "{a:?} {b:?}");
-        *seen.entry((equal, a == b, slots(&a).len() == slots(&b).len())).or_insert(0) += 1;
+        *seen.entry((equal, a == b, of_a.len() == of_b.len(), alike(&of_a, &of_b))).or_insert(0) += 1;
     }
-    // equal, of other bytes, and of another number of slots; and not equal, of the same number
-    for what in [(true, false, true), (true, false, false), (true, true, true), (false, false, true)] {
+    // equal, of the same bytes and of others
+    let equal = [(true, true, true, true), (true, false, true, true)];
+    // not equal, for the images, for the slot counts alone, and for both
+    let unequal = [(true, false), (false, true), (false, false)].map(|(counts, alike)| (false, false, counts, alike));
+    for what in equal.into_iter().chain(unequal) {
         assert!(seen.get(&what).is_some_and(|n| *n > 400), "{what:?}: {seen:?}");
     }
 }
@@ -334,7 +338,7 @@ fn equal_sets() {
 /// What the length of a form is said to be, of a set whose data no one may look at; and tidied into little room it is refused, the buffer not even looked at.
 fn lengths(data: u32, slots: &[Slot]) -> Result<usize, u32> {
     let head = head(data, slots);
-    let (set, to) = (Beginning::new(&head, head.len() + data as usize), Beginning::new(&[], 600));
+    let (set, to) = (Beginning::new(&head, head.len() + data as usize), Beginning::new(&[], 519));
     let ((at, len), (room, room_len)) = (set.parts(), to.parts());
     // Safe: what it may read is there, and what it must not touch ends the test.
     let both = |len| unsafe { (raw::worgesli_tidy_len(at, len), raw::worgesli_tidy(at, len, room.cast_mut(), room_len)) };
@@ -360,7 +364,7 @@ fn sums() {
         slots
     };
     let (range, half) = (1 << 26, 1 << 31);
-    let rows: [(u32, Vec<Slot>, Option<u64>); 24] = [
+    let rows: [(u32, Vec<Slot>, Option<u64>); 27] = [
         (MOST, all(1, MOST - 2), Some((1 << 32) - 3)),
         (MOST, all(1, MOST - 1), Some((1 << 32) - 2)),
         (MOST, all(1, MOST), None),
@@ -371,6 +375,9 @@ fn sums() {
         (MOST, vec![(0, MOST), (5, 0)], None),
         (MOST, vec![(5, 0), (0, MOST)], None),
         (MOST, vec![(1, MOST - 1), ABSENT, (0, 0), ABSENT], Some((1 << 32) - 2)),
+        (MOST, with(vec![(1, MOST - 1)], &[ABSENT; 63]), Some((1 << 32) - 2)),
+        (MOST, with(vec![(0, MOST)], &[ABSENT; 63]), None),
+        (MOST, vec![ABSENT; 64], Some(0)),
         (MOST, vec![(1, MOST - 1), (MOST - 1, 1)], None),
         (half, vec![(0, half), (0, half - 2)], Some((1 << 32) - 2)),
         (half, vec![(0, half), (0, half - 1)], None),
@@ -389,8 +396,7 @@ fn sums() {
         (MOST, with(all(2, half), &[(0, 0)]), None),
     ];
     for (data, slots, due) in rows {
-        let present = slots.iter().rposition(|s| *s != ABSENT).unwrap() + 1;
-        let due = due.map(|sum| 8 + 8 * present + sum as usize).ok_or(29);
+        let due = due.map(|sum| 8 + 8 * slots.len() + sum as usize).ok_or(29);
         assert_eq!(lengths(data, &slots), due, "{} slots, the last {:?}, of {data} bytes", slots.len(), slots.last());
     }
 }
