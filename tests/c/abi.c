@@ -669,27 +669,27 @@ static bool tidies(const uint8_t *set, size_t set_len, size_t len, uint64_t refu
     return r.len == len && r.refused == refused;
 }
 
-/* Each slot of the set alone is present: the marks before it stay, those behind it do not. */
-static void alone(void)
+/* Of n slots the i-th alone is present: the marks before it and behind it stay, and no other ID is served, unless there is no other slot. */
+static void alone(size_t n, size_t i)
 {
     uint8_t set[8 + 8 * WORGESLI_SLOTS + 3], to[sizeof set + 1];
-    for (size_t i = 0; i < WORGESLI_SLOTS; i++) {
-        const size_t len = shared(set, WORGESLI_SLOTS, 3), due = 8 + 8 * (i + 1) + 2;
-        memcpy(set + len - 3, "xyz", 3);
-        for (size_t j = 0; j < WORGESLI_SLOTS; j++)
-            if (j != i)
-                memcpy(set + 8 + 4 * j, mark, 4), put(set + 8 + 4 * (WORGESLI_SLOTS + j), 4, 0);
-        put(set + 8 + 4 * i, 4, 1), put(set + 8 + 4 * (WORGESLI_SLOTS + i), 4, 2);
-        memset(to, 0x5a, sizeof to);
-        worgesli_tidied r = worgesli_tidy(set, len, to, due - 1);
-        EXPECT(r.refused == WORGESLI_REFUSED_TIDY_ROOM && r.len == 0 && to[0] == 0x5a && to[due - 2] == 0x5a && tidies(set, len, due, 0));
-        r = worgesli_tidy(set, len, to, sizeof to);
-        EXPECT(r.refused == 0 && r.len == due && to[0] == i + 1 && to[4] == 2 && memcmp(to + due - 2, "yz", 2) == 0 && to[due] == 0x5a);
-        for (size_t j = 0; j < i; j++)
-            EXPECT(memcmp(to + 8 + 4 * j, mark, 4) == 0 && memcmp(to + 8 + 4 * (i + 1 + j), none, 4) == 0);
-        EXPECT(memcmp(to + 8 + 4 * i, none, 4) == 0 && to[8 + 4 * (2 * i + 1)] == 2);
-        EXPECT(worgesli_check_images(to, due) == 0 && tidies(to, due, due, 0) && worgesli_image_range(to, due, i, 0, 2).start == due - 2);
-    }
+    const size_t len = shared(set, n, 3), due = len - 1;
+    memcpy(set + len - 3, "xyz", 3);
+    for (size_t j = 0; j < n; j++)
+        if (j != i)
+            memcpy(set + 8 + 4 * j, mark, 4), put(set + 8 + 4 * (n + j), 4, 0);
+    put(set + 8 + 4 * i, 4, 1), put(set + 8 + 4 * (n + i), 4, 2);
+    memset(to, 0x5a, sizeof to);
+    worgesli_tidied r = worgesli_tidy(set, len, to, due - 1);
+    EXPECT(r.refused == WORGESLI_REFUSED_TIDY_ROOM && r.len == 0 && to[0] == 0x5a && to[due - 2] == 0x5a && tidies(set, len, due, 0));
+    r = worgesli_tidy(set, len, to, sizeof to);
+    EXPECT(r.refused == 0 && r.len == due && to[0] == n && to[4] == 2 && memcmp(to + due - 2, "yz", 2) == 0 && to[due] == 0x5a);
+    for (size_t j = 0; j < n; j++)
+        EXPECT(j == i || (memcmp(to + 8 + 4 * j, mark, 4) == 0 && memcmp(to + 8 + 4 * (n + j), none, 4) == 0));
+    EXPECT(memcmp(to + 8 + 4 * i, none, 4) == 0 && to[8 + 4 * (n + i)] == 2);
+    EXPECT(worgesli_check_images(to, due) == 0 && tidies(to, due, due, 0) && worgesli_image_range(to, due, i, 0, 2).start == due - 2);
+    for (uint64_t id = 0; id < n + 2; id++)
+        EXPECT(worgesli_image_range(to, due, id, 0, 2).refused == (id == i || n == 1 ? 0 : WORGESLI_REFUSED_NO_IMAGE));
 }
 
 /* Slots that share a range, up to more data than a form may have: no byte of it is read to say so. */
@@ -711,7 +711,9 @@ static void forms(void)
     for (size_t i = 0; i < sizeof to; i++)
         EXPECT(to[i] == 0x5a);
     free(set);
-    alone();
+    for (size_t n = 1; n <= WORGESLI_SLOTS; n++)
+        for (size_t i = 0; i < n; i++)
+            alone(n, i);
 }
 
 /* ---- NULL with length 0, for every slice */

@@ -90,8 +90,8 @@ static void forecast(void)
 /* "ef", none, "abc", an empty image, "bcd", none, none; '-' is no slot's. */
 static const uint8_t untidy[] = {7, 0, 0, 0, 7, 0, 0, 0, 5, 0, 0, 0, 255, 255, 255, 255, 0, 0, 0, 0, 3, 0, 0, 0, 1, 0, 0, 0, 255, 255, 255, 255, 255, 255, 255, 255,
                                  2, 0, 0, 0, 0, 0, 0, 0, 3, 0, 0, 0, 0, 0, 0, 0, 3, 0, 0, 0, 0, 0, 0, 0, 0, 0, 0, 0, 'a', 'b', 'c', 'd', '-', 'e', 'f'};
-static const uint8_t tidied[] = {5, 0, 0, 0, 8, 0, 0, 0, 0, 0, 0, 0, 255, 255, 255, 255, 2, 0, 0, 0, 5, 0, 0, 0, 5, 0, 0, 0,
-                                 2, 0, 0, 0, 0, 0, 0, 0, 3, 0, 0, 0, 0, 0, 0, 0, 3, 0, 0, 0, 'e', 'f', 'a', 'b', 'c', 'b', 'c', 'd'};
+static const uint8_t tidied[] = {7, 0, 0, 0, 8, 0, 0, 0, 0, 0, 0, 0, 255, 255, 255, 255, 2, 0, 0, 0, 5, 0, 0, 0, 5, 0, 0, 0, 255, 255, 255, 255, 255, 255, 255, 255,
+                                 2, 0, 0, 0, 0, 0, 0, 0, 3, 0, 0, 0, 0, 0, 0, 0, 3, 0, 0, 0, 0, 0, 0, 0, 0, 0, 0, 0, 'e', 'f', 'a', 'b', 'c', 'b', 'c', 'd'};
 
 /* A set in a buffer of so many bytes comes to this form, with the rest as it was; or is refused (form NULL), and all is as it was. */
 static void tidies(const uint8_t *set, size_t set_len, const uint8_t *form, size_t len, size_t room, uint32_t refused)
@@ -109,12 +109,14 @@ static void tidies(const uint8_t *set, size_t set_len, const uint8_t *form, size
 static void tidy(void)
 {
     static const uint8_t zeros[9] = {0}, absent[24] = {2, 0, 0, 0, 0, 0, 0, 0, 255, 255, 255, 255, 255, 255, 255, 255}, many[8] = {65};
+    static const uint8_t gap[25] = {2, 0, 0, 0, 1, 0, 0, 0, 255, 255, 255, 255, 255, 255, 255, 255};
     for (size_t room = 0; room < 80; room++) {
         tidies(untidy, sizeof untidy, tidied, sizeof tidied, room, room < sizeof tidied ? WORGESLI_REFUSED_TIDY_ROOM : 0);
         tidies(tidied, sizeof tidied, tidied, sizeof tidied, room, room < sizeof tidied ? 29 : 0);
         /* without an image: no slot, or none that is there */
         tidies(zeros, 8, zeros, 8, room, room < 8 ? 29 : 0);
-        tidies(absent, 24, zeros, 8, room, room < 8 ? 29 : 0);
+        tidies(absent, 24, absent, 24, room, room < 24 ? 29 : 0);
+        tidies(gap, 25, absent, 24, room, room < 24 ? 29 : 0);
         /* malformed, whatever the room */
         tidies(untidy, sizeof untidy - 1, NULL, 0, room, WORGESLI_REFUSED_TIDY_SET);
         tidies(zeros, 7, NULL, 0, room, 28);
@@ -123,7 +125,7 @@ static void tidy(void)
         tidies(NULL, 0, NULL, 0, room, 28);
     }
     EXPECT(worgesli_tidy_len(untidy, sizeof untidy).len == sizeof tidied && worgesli_tidy_len(untidy, sizeof untidy).refused == 0);
-    EXPECT(worgesli_tidy_len(absent, sizeof absent).len == 8 && worgesli_tidy_len(absent, sizeof absent).refused == 0);
+    EXPECT(worgesli_tidy_len(gap, sizeof gap).len == sizeof absent && worgesli_tidy_len(gap, sizeof gap).refused == 0);
     EXPECT(worgesli_tidy_len(untidy, sizeof untidy - 1).refused == 28 && worgesli_tidy_len(untidy, sizeof untidy - 1).len == 0);
     EXPECT(worgesli_tidy_len(NULL, 0).refused == 28 && worgesli_tidy(NULL, 0, NULL, 0).refused == 28);
     EXPECT(worgesli_tidy(zeros, 8, NULL, 0).refused == 29 && worgesli_tidy(zeros, 8, NULL, 0).len == 0);
@@ -193,29 +195,26 @@ static void hostile(void)
     slots[1] = slot("x", large / 2 - 1), untouched(slots, 2, 1000, 24 + large);
 }
 
-/* The slots, which are parts of these bytes, as a set over all of them, in which they share what they share: its tidy form is their bundle without the absent
- * ones at its end, and that of their bundle too. */
+/* The slots, which are parts of these bytes, as a set over all of them, in which they share what they share: its tidy form is their bundle, and that of their
+ * bundle too. */
 static void tidy_is_bundle(const worgesli_slot *slots, size_t n, const uint8_t *bytes, size_t len)
 {
     static uint8_t set[1024];
     const size_t size = 8 + 8 * n + len;
-    size_t present = n;
-    while (present > 0 && slots[present - 1].bytes == NULL)
-        present--;
     EXPECT(size <= sizeof set);
     worgesli_put(set, n), worgesli_put(set + 4, len), memcpy(set + 8 + 8 * n, bytes, len);
     for (size_t i = 0; i < n; i++) {
         worgesli_put(set + 8 + 4 * i, slots[i].bytes == NULL ? 0xFFFFFFFFu : (size_t)((const uint8_t *)slots[i].bytes - bytes));
         worgesli_put(set + 8 + 4 * n + 4 * i, slots[i].len);
     }
-    const size_t due = worgesli_bundle(slots, present, NULL, 0), all = worgesli_bundle(slots, n, NULL, 0);
-    uint8_t *form = (uint8_t *)malloc(due), *bundle = (uint8_t *)malloc(all);
-    EXPECT(worgesli_bundle(slots, present, form, due) == due && worgesli_bundle(slots, n, bundle, all) == all);
-    EXPECT(worgesli_tidy_len(set, size).len == due && worgesli_tidy_len(bundle, all).len == due);
-    tidies(set, size, form, due, due, 0);
-    tidies(set, size, form, due, due - 1, WORGESLI_REFUSED_TIDY_ROOM);
-    tidies(bundle, all, form, due, due, 0);
-    free(form), free(bundle);
+    const size_t due = worgesli_bundle(slots, n, NULL, 0);
+    uint8_t *bundle = (uint8_t *)malloc(due);
+    EXPECT(worgesli_bundle(slots, n, bundle, due) == due);
+    EXPECT(worgesli_tidy_len(set, size).len == due && worgesli_tidy_len(bundle, due).len == due);
+    tidies(set, size, bundle, due, due, 0);
+    tidies(set, size, bundle, due, due - 1, WORGESLI_REFUSED_TIDY_ROOM);
+    tidies(bundle, due, bundle, due, due, 0);
+    free(bundle);
 }
 
 /* Slots at random, in a buffer of just their length: well formed, and each slot's bytes stand where the archive looks for them. */
@@ -232,7 +231,7 @@ static void random_slots(void)
         for (size_t i = 0; i < n; i++) {
             x = x * 1664525 + 1013904223;
             const size_t from = x >> 8 & 127, len = x >> 16 & 3 ? x >> 20 & 127 : 0;
-            slots[i] = x >> 28 == 0 ? slot(NULL, 0) : slot(bytes + from, len);
+            slots[i] = x >> 28 == 0 || (turn % 5 == 0 && i > n / 2) ? slot(NULL, 0) : slot(bytes + from, len);
             absent |= slots[i].bytes == NULL;
         }
         const size_t size = worgesli_bundle(slots, n, NULL, 0);

@@ -886,12 +886,7 @@ fn an_inherited_descriptor() {
 
 // ---- bundles
 
-/// The slots up to the last that is not absent.
-fn present<T>(slots: &[Option<T>]) -> &[Option<T>] {
-    &slots[..slots.iter().rposition(Option::is_some).map_or(0, |i| i + 1)]
-}
-
-/// The header's bundles are those of this crate, byte for byte; and so is what each is tidied to, which has no absent slot at its end.
+/// The header's bundles are those of this crate, byte for byte; and so is what each is tidied to, absent slots at its end too.
 #[test]
 fn bundles() {
     let Some(plain) = example(Build::Plain) else { return };
@@ -917,7 +912,8 @@ fn bundles() {
             input.extend(slot.as_ref().map_or(u32::MAX, |s| s.len() as u32).to_le_bytes());
             input.extend(slot.iter().flatten());
         }
-        for set in [ImageSet::new(&slots), ImageSet::new(present(&slots))].map(Result::unwrap) {
+        let set = ImageSet::new(&slots).unwrap();
+        for _ in ["the bundle", "its tidy form"] {
             expected.extend((set.bytes().len() as u32).to_le_bytes());
             expected.extend(set.bytes());
         }
@@ -975,7 +971,8 @@ fn untidy() -> Vec<u8> {
 }
 
 fn tidied() -> Vec<u8> {
-    set_of(&[(0, 2), (u32::MAX, 0), (2, 3), (5, 0), (5, 3)], b"efabcbcd")
+    let none = (u32::MAX, 0);
+    set_of(&[(0, 2), none, (2, 3), (5, 0), (5, 3), none, none], b"efabcbcd")
 }
 
 /// A set at random, and its tidy form as this crate writes it.
@@ -991,7 +988,7 @@ fn random_set(rng: &mut Rng) -> (Vec<u8>, Vec<u8>) {
     let slots: Vec<_> = (0..data.len() % 65).map(|_| range()).collect();
     let images: Vec<_> = slots.iter().map(|s| s.map(|(start, len)| data[start as usize..][..len as usize].to_vec())).collect();
     let slots: Vec<_> = slots.into_iter().map(|s| s.unwrap_or((u32::MAX, 0))).collect();
-    (set_of(&slots, &data), ImageSet::new(present(&images)).unwrap().bytes().to_vec())
+    (set_of(&slots, &data), ImageSet::new(&images).unwrap().bytes().to_vec())
 }
 
 /// Each build of the program.
@@ -1051,6 +1048,10 @@ fn sets_are_tidied() {
         not_tidied(&mut tidy(program, &folder, "set", "tidy"), &folder, "tidy: tidy: File exists\n");
         fs::rename(folder.0.join("tidy"), folder.0.join("set")).unwrap();
         made(&mut tidy(program, &folder, "set", "tidy"), &folder, &tidied());
+        // one image and an absent second slot: the form has two slots
+        let folder = folder_with(b"\x02\0\0\0\x06\0\0\0\x01\0\0\0\xff\xff\xff\xff\x04\0\0\0\0\0\0\0-boot-");
+        let form = b"\x02\0\0\0\x04\0\0\0\0\0\0\0\xff\xff\xff\xff\x04\0\0\0\0\0\0\0boot";
+        made(&mut tidy(program, &folder, "set", "tidy"), &folder, form);
         let mut rng = Rng::new(21);
         for seed in 0..40u32 {
             let (set, form) = random_set(&mut rng);
