@@ -319,7 +319,7 @@ static bool apart(const image_set *set, const bundle *form)
         const lent l = {queue, bad ? absent : named ? names : none, one_in(12) ? 0 : one_in(3) ? queued : below(queued + 1),
                         bad ? sizeof absent : named ? sizeof names : sizeof none, sizeof ours.table - (one_in(20) ? 1 + below(280) : 0),
                         sizeof ours.reply - (one_in(20) ? 1 + below(64) : 0), sizeof ours.out - (one_in(30) ? 1 + below(52) : 0)};
-        /* now and then the same set in both runs, whose image is one less or which is malformed */
+        /* now and then the same set in both runs: the form, or that without its last byte, which is malformed */
         const bool others = one_in(25);
         if (others)
             memcpy(&other, form, sizeof other), other.len -= one_in(2) ? 1 : 0;

@@ -158,7 +158,7 @@ fn tidy_sets(folder: &Path) -> Result<(), Box<dyn Error>> {
     let none = (u32::MAX, 0);
     let sets = [
         assembled(&[(8, 6), none, (0, 7), (9, 0), (0, 4), none, none], b"sbl1mbn-loader")?,
-        assembled(&[(4, 6), none, (12, 7), (0, 0), (0, 4)], b"sbl1loader--sbl1mbn")?,
+        assembled(&[(4, 6), none, (12, 7), (0, 0), (0, 4), none, none], b"sbl1loader--sbl1mbn")?,
     ];
     let tidied = [sets[0].tidied()?, sets[1].tidied()?];
     println!("two image sets with the same images, laid out otherwise, and what they are tidied to:");

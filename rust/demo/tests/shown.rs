@@ -49,13 +49,14 @@ fn both_boards() {
         boards += 1;
     }
     assert_eq!(boards, 2);
-    // "loader", none, "sbl1mbn", an empty image, "sbl1"
-    let numbers = [5, 17, 0, u32::MAX, 6, 13, 13, 6, 0, 7, 0, 4].map(u32::to_le_bytes).concat();
+    // "loader", none, "sbl1mbn", an empty image, "sbl1", none, none
+    let none = u32::MAX;
+    let numbers = [7, 17, 0, none, 6, 13, 13, none, none, 6, 0, 7, 0, 4, 0, 0].map(u32::to_le_bytes).concat();
     assert_eq!((&tidy, tidy == other), (&[&numbers[..], b"loadersbl1mbnsbl1"].concat(), true), "{said}");
-    assert_eq!((first.len(), second.len(), tidy.len()), (78, 67, 65));
+    assert_eq!((first.len(), second.len(), tidy.len()), (78, 83, 81));
     for line in [
-        "    first.set      78 bytes    first.tidy     65 bytes",
-        "    second.set     67 bytes    second.tidy    65 bytes",
+        "    first.set      78 bytes    first.tidy     81 bytes",
+        "    second.set     83 bytes    second.tidy    81 bytes",
         "the sets differ, byte for byte; tidied they are the same",
     ] {
         assert_eq!(times(line), 1, "{said}");
