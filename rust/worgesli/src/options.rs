@@ -33,7 +33,7 @@ impl Options {
         Options { command: Some(command), ..self }
     }
 
-    /// The images that a device may ask for, by slot. With one image, every ID means it.
+    /// The images that a device may ask for, by slot. With one slot, every ID means it; an absent image has a slot too.
     pub fn images(self, images: &[Option<Vec<u8>>]) -> Options {
         Options { images: ImageSet::new(images), ..self }
     }

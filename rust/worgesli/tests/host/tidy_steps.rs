@@ -20,8 +20,9 @@ fn one_image_and_an_absent_second_slot() {
     let alone = [1, 0, 0, 0, 5, 0, 0, 0, 0, 0, 0, 0, 5, 0, 0, 0, b'i', b'm', b'a', b'g', b'e'];
     assert_eq!(tidy(&assembled).unwrap(), tidied);
     assert_eq!((tidy(&tidied).unwrap(), tidy(&alone).unwrap()), (tidied.to_vec(), alone.to_vec()));
+    let finished = Answer::Finished { how: 1, reads: 0 };
     for (set, second, done) in
-        [(&assembled[..], Err(12), Answer::Go), (&tidied, Err(12), Answer::Go), (&alone, Ok(true), Answer::Finished { how: 1, reads: 0 })]
+        [(&assembled[..], Err(12), Answer::Go), (&tidied[..], Err(12), Answer::Go), (&alone[..], Ok(true), finished)]
     {
         let (open, none) = (Session::open(Mode::WaitingForImage, None, Backend::Usb), [0; 8]);
         let said = |mut s: Session, packet: &[u8]| {
@@ -39,7 +40,7 @@ fn one_image_and_an_absent_second_slot() {
         assert_eq!(served(said(open, &device::read_data(1, 0, 5))), second);
         assert_eq!(served(said(open, &device::read_data64(1, 0, 5))), second);
         assert_eq!(said(open, &device::done_resp(0)), done);
-        assert_eq!(said(open, &device::done_resp(1)), Answer::Finished { how: 1, reads: 0 });
+        assert_eq!(said(open, &device::done_resp(1)), finished);
     }
 }
 
