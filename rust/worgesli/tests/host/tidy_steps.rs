@@ -122,7 +122,11 @@ fn apart(rng: &mut Rng, set: &[u8], form: &[u8], seen: &mut Seen) -> Option<Stri
         if queue.is_empty() || rng.chance(100) {
             queue.extend(speech(rng, &ours.session, &images));
         }
-        let piece = if rng.chance(60) { 0 } else { rng.piece(queue.len()) };
+        let piece = match rng.below(16) {
+            0 => 0,
+            1..8 => queue.len(),
+            _ => rng.piece(queue.len()),
+        };
         let (names, other) = (names(rng), other(rng, set));
         let short = |rng: &mut Rng, len: usize, chance| if rng.chance(chance) { rng.below(len as u64) as usize } else { len };
         let lent = Lent {
@@ -145,7 +149,8 @@ fn apart(rng: &mut Rng, set: &[u8], form: &[u8], seen: &mut Seen) -> Option<Stri
             seen.note(&was, &a, &b, &images);
         }
         queue.drain(..a.taken);
-        if was.phase == 6 {
+        // most of what stays as it is is known by now
+        if was.phase == 6 || (a.answer, a.first) == (REFUSED, 18) && rng.chance(500) {
             break;
         }
     }
@@ -206,20 +211,23 @@ fn begun(rng: &mut Rng, images: &[Option<&[u8]>]) -> (Run, Vec<u8>) {
     let (mut table, mut queue) = (entries(rng, width), Vec::new());
     table.resize(280, 9);
     let kind = rng.below(16);
-    if kind < 8 {
-        (s.phase, s.width) = (rng.below(7) as u32, width.bits().into());
+    if kind < 7 {
+        (s.phase, s.width) = ((rng.below(10) as u32).saturating_sub(3), width.bits().into());
         s.reads = [0, 1, rng.below(99), (1 << 63) + rng.below(3)][(rng.below(20) as usize).saturating_sub(16)];
         match s.phase {
             0 => queue = held(rng, &mut s, images),
-            2 | 6 => s.count = rng.below(70) as usize,
-            1 => (s.count, s.at) = (rng.below(66) as usize, rng.below(40) as usize),
-            3 => (s.count, s.at) = (rng.below(282) as usize, rng.below(150) as usize),
-            _ => (s.count, s.at) = (rng.below(281) as usize, rng.below(4) as usize),
+            1 | 2 | 6 => s.count = rng.below(66) as usize,
+            _ => s.count = rng.below(282) as usize,
+        }
+        match s.phase {
+            1 | 3 => s.at = rng.below(s.count as u64 + 2) as usize,
+            4 | 5 => s.at = rng.below(s.count as u64 / 64 + 2) as usize,
+            _ => {}
         }
         if s.phase == 5 {
             region(rng, &mut s, width);
         }
-    } else if kind == 8 {
+    } else if kind == 7 {
         s = numbers(rng);
     }
     let mut rest = [0; 64 + 52];
@@ -262,12 +270,17 @@ fn speech(rng: &mut Rng, s: &raw::Session, images: &[Option<&[u8]>]) -> Vec<u8> 
 /// A packet of any kind, most often one that asks for a part of an image: IDs around the slot count, ranges around the image's end.
 fn packet(rng: &mut Rng, images: &[Option<&[u8]>]) -> Vec<u8> {
     let n = images.len() as u64;
-    let id = [n, n + 1, n.saturating_sub(1), 0, rng.number(), 1 << 32, rng.below(n + 1)][(rng.below(12) as usize).min(6)];
+    let there: Vec<u64> = (0..n).filter(|i| images[*i as usize].is_some()).collect();
+    let edges = [n, n + 1, n.saturating_sub(1), 0, 1, rng.below(n + 1), rng.number(), 1 << 32];
+    let id = match there.len() as u64 {
+        n @ 1.. if rng.chance(600) => there[rng.below(n) as usize],
+        _ => edges[rng.below(8) as usize],
+    };
     let slot = if n == 1 { 0 } else { id as usize };
     let size = images.get(slot).copied().flatten().map_or(3, |image| image.len() as u64);
-    let offset = [0, size, size + 1, rng.below(size + 1)][rng.below(4) as usize];
+    let offset = [0, 0, rng.below(size + 1), size, size + 1][rng.below(5) as usize];
     let rest = size.saturating_sub(offset);
-    let len = [0, rest, rest + 1, rng.below(rest + 1)][rng.below(4) as usize];
+    let len = [rest, rest, rng.below(rest + 1), 0, rest + 1][rng.below(5) as usize];
     let narrow = |n: u64| n as u32;
     match rng.below(36) {
         0..10 => device::read_data(narrow(id), narrow(offset), narrow(len)),
@@ -308,7 +321,7 @@ fn packet(rng: &mut Rng, images: &[Option<&[u8]>]) -> Vec<u8> {
 #[test]
 fn any_session() {
     let (mut rng, mut seen) = (Rng::new(71), Seen::default());
-    for round in 0..16_000 {
+    for round in 0..40_000 {
         let set = any_set(&mut rng);
         let apart = apart(&mut rng, &set, &tidy(&set).unwrap(), &mut seen);
         assert_eq!(apart, None, "round {round}, of {set:?}");
@@ -325,6 +338,12 @@ fn any_session() {
 #[test]
 fn wrong_forms() {
     type Wrong = fn(&mut Rng, Vec<Option<Vec<u8>>>) -> Vec<u8>;
+    // an image that is not empty
+    fn some<'a>(rng: &mut Rng, images: &'a mut [Option<Vec<u8>>]) -> Option<&'a mut Vec<u8>> {
+        let mut some: Vec<_> = images.iter_mut().flatten().filter(|image| !image.is_empty()).collect();
+        let i = rng.below(some.len().max(1) as u64) as usize;
+        (i < some.len()).then(|| some.swap_remove(i))
+    }
     // these images one behind the other, and absent ones with this mark
     fn written(images: &[Option<Vec<u8>>], mark: (u32, u32)) -> Vec<u8> {
         let (mut data, mut slots) = (Vec::new(), Vec::new());
@@ -349,16 +368,14 @@ fn wrong_forms() {
             written(&images, ABSENT)
         }),
         ("a byte is another", |rng, mut images| {
-            let i = rng.below(images.len().max(1) as u64) as usize;
-            if let Some(Some(image)) = images.get_mut(i) {
-                let at = rng.below(image.len().max(1) as u64) as usize;
-                image.get_mut(at).into_iter().for_each(|b| *b ^= 1);
+            if let Some(image) = some(rng, &mut images) {
+                let at = rng.below(image.len() as u64) as usize;
+                image[at] ^= 1;
             }
             written(&images, ABSENT)
         }),
         ("a byte fewer", |rng, mut images| {
-            let i = rng.below(images.len().max(1) as u64) as usize;
-            images.get_mut(i).into_iter().flatten().for_each(|image| drop(image.pop()));
+            some(rng, &mut images).and_then(Vec::pop);
             written(&images, ABSENT)
         }),
         ("absent slots have another start", |_, images| written(&images, (0, 0))),
@@ -370,7 +387,7 @@ fn wrong_forms() {
     ];
     for (what, wrong) in wrongs {
         let (mut rng, mut seen, mut made, mut told) = (Rng::new(72), Seen::default(), 0, 0);
-        for _ in 0..1500 {
+        for _ in 0..3000 {
             let set = any_set(&mut rng);
             let form = wrong(&mut rng, slots(&set).into_iter().map(|image| image.map(Vec::from)).collect());
             made += u32::from(form != tidy(&set).unwrap());
