@@ -1071,7 +1071,7 @@ fn tidied_elsewhere() {
         let whole = folder.0.join("whole");
         for to in ["dump/tidy", "./dump//again", whole.to_str().unwrap()] {
             let said = Said::by(&mut tidy(program, &folder, "set", to));
-            assert_eq!((said.status, said.out), (Some(0), format!("{to}: 56 bytes\n")), "{}", said.error);
+            assert_eq!((said.status, said.out), (Some(0), format!("{to}: {} bytes\n", tidied().len())), "{}", said.error);
             assert!(fs::read(folder.0.join(to)).unwrap() == tidied());
         }
         assert_eq!(folder.files().into_keys().collect::<Vec<_>>(), ["again", "tidy"]);
