@@ -12,7 +12,7 @@ use lib.Dec.{ltb}
 use lib.ListN.{length, getD, drop, length-append, length-map, List·getD-append}
 use lib.Seq.{sets, getD-at}
 use Rattle.base.proofs.Lists.{sets-append, sets-behind, sets-front}
-use Rattle.base.proofs.Ranges.{below-or-not, by-test, by-then, by-else}
+use Rattle.base.proofs.Ranges.{below-or-not, by-then, by-else}
 use Rattle.field.specs.Field.{leBytes, fields, words}
 use Rattle.field.proofs.Laws.{length-fields, fields-stored}
 use Rattle.bundle.specs.Bundle.{countOf, wellFormed}

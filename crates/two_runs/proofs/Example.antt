@@ -4,13 +4,14 @@
 use mathlib.Core.Path.{_≡_, refl, sym, ap, _∙_}
 use mathlib.Core.Bool.{true}
 use mathlib.Core.List.{List, [], _∷_, _++_, map}
-use mathlib.Core.Option.{none, some}
+use mathlib.Core.Option.{some}
 use Prim.Native.Nat.{ℕ, zero, suc}
 use native.Mathlib.Omega.{arith}
 use lib.ListN.{take, replicate}
 use Rattle.field.specs.Field.{le, leBytes, fields, words}
-use Rattle.bundle.specs.Bundle.{slotsGood, wellFormed, slotOf}
+use Rattle.bundle.specs.Bundle.{countOf, slotsGood, wellFormed, slotOf}
 use Rattle.bundle.specs.Content.{contentOf}
+use Rattle.bundle.proofs.Laws.{content-past}
 use Rattle.command.specs.Command.{kinds, classOf}
 use Rattle.command.specs.declared.SaharaMode.the-variants as M
 use Rattle.packet.specs.Packet.{kindOf, decodeOf}
@@ -21,18 +22,18 @@ use Rattle.tidied.specs.declared.Tidied.the-variants as T
 use Rattle.verdict.specs.Verdict.{verdictOf}
 use Rattle.verdict.specs.declared.ExecCommand.the-variants as X
 use Rattle.verdict.specs.declared.QdlBackend.the-variants as U
-use Rattle.session.specs.declared.Session.{Session}
 use Rattle.session.specs.declared.Answer.{Answer}
 use Rattle.session.specs.declared.Answer.the-variants as A
+use Rattle.session.specs.Outcome.{openedWith}
 use Rattle.session.specs.PacketPhase.{wholeOf, sizedOf, packetOf}
 use Rattle.session.specs.Limits.{limitOf}
 use Rattle.session.specs.Step.{stepOf}
 use Rattle.fetch.specs.Plain.{Report, image, Setting}
 use Rattle.fetch.specs.Device.{definitions, own, another, Lent, start}
-use Rattle.fetch_raw.specs.Calls.{Called, calling}
+use Rattle.fetch_raw.specs.Calls.{calling}
 use Rattle.fetch_raw.proofs.Example.{byTurns}
 use Rattle.two_runs.specs.Claim.{Seen, seenIn, withSet, RunsAlike}
-use Rattle.two_runs.specs.Alike.{shapeIn, SameShape, coveredOf, madeWhole, Judges, Agree}
+use Rattle.two_runs.specs.Alike.{shapeIn, coveredOf, madeWhole, Agree}
 use Rattle.two_runs.proofs.Theorem.{runs-alike, serves-alike}
 use Rattle.two_runs.proofs.Raw.{serves-alike-raw}
 
@@ -125,12 +126,61 @@ dropped-differs x =
     let z : _≡_ {A = ℕ} 0 1 = cc in
     omega arith
 
--- ---- a byte that is not read
+-- ---- two sets that differ in a byte which is not read
 
--- "ABCE": the fourth byte is another
+-- "ABCE"
 abbrev other : List ℕ
 other = words (2 ∷ 6 ∷ 2 ∷ mark ∷ 4 ∷ 0 ∷ []) ++ 0 ∷ 0 ∷ 65 ∷ 66 ∷ 67 ∷ 69 ∷ []
 
--- the first three are read
-abbrev three : List Lent
-three = step (read 0 0 3) ∷ []
+formed : (wellFormed true set ≡ true) × (wellFormed true other ≡ true)
+unfolding wellFormed slotsGood le leBytes fields
+formed = (refl, refl)
+
+counts : (countOf set ≡ 2) × (countOf other ≡ 2)
+unfolding le leBytes fields
+counts = (refl, refl)
+
+shapes : (i : ℕ) → shapeIn (contentOf set i) ≡ shapeIn (contentOf other i)
+unfolding slotOf le leBytes fields
+shapes zero = refl
+shapes (suc zero) = refl
+shapes (suc (suc i)) =
+    ap shapeIn (content-past set (suc (suc i)) (omega (arith, counts)) ∙ sym (content-past other (suc (suc i)) (omega (arith, counts))))
+
+-- its first three bytes are read
+first-three : madeWhole (openedWith (setting .opening)) 0 (read 0 0 3) ≡ some (read 0 0 3)
+unfolding madeWhole le leBytes fields
+first-three = refl
+
+covered-alike : coveredOf set (read 0 0 3) ≡ coveredOf other (read 0 0 3)
+unfolding coveredOf decodeOf classOf kinds kindOf slotOf le leBytes fields
+covered-alike = refl
+
+agree : Agree setting other (start definitions setting) (step (read 0 0 3))
+agree q p j =
+    let h : 0 ≡ j .held = let x = j .phase in cc in
+    let w : madeWhole (openedWith (setting .opening)) 0 (read 0 0 3) ≡ some p =
+    ap (λ (k : ℕ). madeWhole (openedWith (setting .opening)) k (read 0 0 3)) h ∙ j .whole in
+    let e : read 0 0 3 ≡ p = let x : some (read 0 0 3) ≡ some p = sym first-three ∙ w in cc in
+    rw (← e) covered-alike
+
+-- so the runs are alike; read whole, they are not
+pub unread-alike : RunsAlike definitions setting other (start definitions setting) (step (read 0 0 3) ∷ [])
+unread-alike =
+    runs-alike setting other (formed .0) (formed .1) (record { counts = counts .0 ∙ sym (counts .1); slots = shapes }) (start definitions setting)
+    (step (read 0 0 3) ∷ []) (agree, tt)
+
+read-whole : reported (seenIn definitions setting (start definitions setting) (step (read 0 0 4) ∷ [])) ≡ (image (65 ∷ 66 ∷ 67 ∷ 68 ∷ []) ∷ []) ∷ []
+unfolding stepOf limitOf packetOf sizedOf wholeOf verdictOf decodeOf classOf kinds kindOf wellFormed slotsGood slotOf le leBytes fields
+read-whole = refl
+
+other-whole : reported (seenIn definitions (withSet setting other) (start definitions setting) (step (read 0 0 4) ∷ [])) ≡ (image (65 ∷ 66 ∷ 67 ∷ 69 ∷ []) ∷ []) ∷ []
+unfolding stepOf limitOf packetOf sizedOf wholeOf verdictOf decodeOf classOf kinds kindOf wellFormed slotsGood slotOf le leBytes fields
+other-whole = refl
+
+pub read-differs : RunsAlike definitions setting other (start definitions setting) (step (read 0 0 4) ∷ []) → ⊥
+read-differs x =
+    let e : _≡_ {A = List (List Report)} ((image (65 ∷ 66 ∷ 67 ∷ 68 ∷ []) ∷ []) ∷ []) ((image (65 ∷ 66 ∷ 67 ∷ 69 ∷ []) ∷ []) ∷ []) =
+    sym read-whole ∙ ap reported (x .steps) ∙ other-whole in
+    let z : _≡_ {A = ℕ} 68 69 = cc in
+    omega arith

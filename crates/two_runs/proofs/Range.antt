@@ -18,7 +18,7 @@ use Rattle.bundle.proofs.Laws.{length-there}
 use Rattle.image.specs.Image.{slotFor, rangeIn, rangeUnjudged}
 use Rattle.image.specs.declared.ImageRange.{ImageRange}
 use Rattle.image.specs.declared.ImageRange.the-variants as R
-use Rattle.two_runs.specs.Alike.{shapeIn, SameShape, coveredIn, covered}
+use Rattle.two_runs.specs.Alike.{shapeIn, SameShape, imageRead, coveredIn, covered}
 
 -- where it starts aside
 abbrev pub rangeAside : ImageRange → ImageRange
@@ -70,6 +70,6 @@ module _ (a b : List ℕ) (same : SameShape a b) (id offset len : ℕ) where
       ∙ ap (λ (x : Option ℕ). rangeShaped x offset len) e
       ∙ sym (range-shaped b (slotFor (countOf b) id) offset len)
 
-  pub ranges-bytes : covered a id offset len ≡ covered b id offset len
+  pub ranges-bytes : covered a (some (imageRead id offset len)) ≡ covered b (some (imageRead id offset len))
       → rangeBytes a (rangeUnjudged a id offset len) ≡ rangeBytes b (rangeUnjudged b id offset len)
   ranges-bytes h = range-covered a (slotFor (countOf a) id) offset len ∙ h ∙ sym (range-covered b (slotFor (countOf b) id) offset len)

@@ -1,16 +1,14 @@
 -- The theorem through the C interface, for every choice of calls and of any numbers, a session's or not: those of a session do what the session does, told as numbers,
 -- and any others are refused alike. Assumes nothing.
 use mathlib.Core.Path.{_≡_, refl, ap, _∙_}
-use mathlib.Core.Bool.{true, false}
 use mathlib.Core.List.{List}
 use Prim.Native.Nat.{ℕ, suc}
 use Rattle.base.proofs.Ranges.{by-test}
-use Rattle.bundle.specs.Bundle.{wellFormed}
 use Rattle.session.specs.declared.Session.{Session}
 use Rattle.session.specs.Outcome.{Outcome}
 use Rattle.session.specs.Step.{stepOf}
 use Rattle.raw.specs.declared.RawSession.{RawSession}
-use Rattle.raw.specs.Raw.{rawOf, sessionOf, isSession, rawStepped, refusedRaw}
+use Rattle.raw.specs.Raw.{rawOf, sessionOf, isSession, rawStepped}
 use Rattle.raw_step.specs.RawStep.{rawOutcomeOf, stepRaw}
 use Rattle.fetch.specs.Device.{givenOf}
 use Rattle.fetch_raw.specs.Calls.{Call, Called, givenRaw, calling}

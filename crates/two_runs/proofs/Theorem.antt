@@ -3,27 +3,24 @@
 use mathlib.Core.Path.{_≡_, refl, sym, ap, _∙_}
 use mathlib.Core.Bool.{true}
 use mathlib.Core.List.{List, [], _∷_, _++_}
+use mathlib.Core.Option.{Option, none, some}
 use Prim.Native.Nat.{ℕ}
 use Rattle.bundle.specs.Bundle.{wellFormed, countOf}
 use Rattle.bundle.specs.Content.{Content, contentOf}
 use Rattle.image.specs.Image.{slotFor}
 use Rattle.packet.specs.Packet.{decodeOf}
-use Rattle.packet.specs.declared.SaharaPacketBody.{SaharaPacketBody}
-use Rattle.packet.specs.declared.SaharaPacketBody.the-variants as B
-use Rattle.packet.specs.declared.Decoded.{Decoded}
-use Rattle.packet.specs.declared.Decoded.the-variants as D
 use Rattle.session.specs.declared.Session.{Session}
 use Rattle.session.specs.declared.Answer.{Answer}
 use Rattle.session.specs.declared.Answer.the-variants as A
 use Rattle.steps.specs.Steps.{Throughout}
 use Rattle.steps.proofs.Steps.{outs-while, final-while, always}
 use Rattle.fetch.specs.Plain.{Setting}
-use Rattle.fetch.specs.Device.{Host, definitions, Given, Thing, own, other, Lent, lent, delivered, kept, left, queued, World, made, next}
+use Rattle.fetch.specs.Device.{Host, definitions, Thing, own, other, Lent, lent, delivered, kept, left, queued, World, made, next}
 use Rattle.tidied.specs.Claim.{TidyForm}
 use Rattle.tidied.specs.Tidy.{tidyBytes}
 use Rattle.tidied.proofs.Theorem.{Given as Tidied, given, form-formed, form-count, form-same}
 use Rattle.two_runs.specs.Claim.{startAside, Seen, seenOf, seen, withSet, RunsAlike, ServesAlike}
-use Rattle.two_runs.specs.Alike.{shapeIn, SameShape, coveredIn, covered, coveredBy, coveredOn, coveredOf, Agree}
+use Rattle.two_runs.specs.Alike.{shapeIn, SameShape, ImageRead, readIn, coveredIn, covered, coveredOf, Agree}
 use Rattle.two_runs.proofs.Step.{step-alike}
 
 -- ---- the law of two runs, of any host
@@ -124,35 +121,15 @@ module _ (a b : List ℕ) (counts : countOf a ≡ countOf b) (contents : (i : �
   same-shape : SameShape a b
   same-shape = record { counts = counts; slots = λ i. ap shapeIn (contents i) }
 
-  covered-same : (id offset len : ℕ) → covered a id offset len ≡ covered b id offset len
-  covered-same id offset len =
-      ap (λ (x : Content). coveredIn x offset len) (contents (slotFor (countOf a) id))
-      ∙ ap (λ (n : ℕ). coveredIn (contentOf b (slotFor n id)) offset len) counts
-
-  body-same : (len : ℕ) (x : SaharaPacketBody) → coveredBy a len x ≡ coveredBy b len x
-  body-same len (B.HelloReq x) = refl
-  body-same len (B.HelloResp x) = refl
-  body-same len (B.ReadReq x) = rw (covered-same (x .image) (x .offset) (x .len)) refl
-  body-same len (B.Eoi x) = refl
-  body-same len B.DoneReq = refl
-  body-same len (B.DoneResp x) = refl
-  body-same len B.ResetResp = refl
-  body-same len (B.DebugReq x) = refl
-  body-same len (B.ReadMemReq x) = refl
-  body-same len B.CommandReady = refl
-  body-same len (B.ExecResp x) = refl
-  body-same len (B.ExecData x) = refl
-  body-same len (B.Debug64Req x) = refl
-  body-same len (B.ReadMem64Req x) = refl
-  body-same len (B.ReadData64Req x) = rw (covered-same (x .image) (x .offset) (x .len)) refl
-
-  decoded-same : (x : Decoded) → coveredOn a x ≡ coveredOn b x
-  decoded-same (D.Is p) = body-same (p .len) (p .body)
-  decoded-same (D.Refused why) = refl
+  covered-same : (r : Option ImageRead) → covered a r ≡ covered b r
+  covered-same none = refl
+  covered-same (some r) =
+      ap (λ (x : Content). coveredIn x (r .offset) (r .len)) (contents (slotFor (countOf a) (r .id)))
+      ∙ ap (λ (n : ℕ). coveredIn (contentOf b (slotFor n (r .id))) (r .offset) (r .len)) counts
 
   covered-all : (p : List ℕ) → coveredOf a p ≡ coveredOf b p
   unfolding coveredOf
-  covered-all p = decoded-same (decodeOf p)
+  covered-all p = covered-same (readIn (decodeOf p))
 
 -- every step is seen alike
 pub tidy-alike : (set form : List ℕ) → TidyForm set form → (s : Session) (d names t y o : List ℕ)

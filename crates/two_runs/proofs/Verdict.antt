@@ -1,8 +1,8 @@
 -- The verdict on a packet with two image sets of one shape that agree on what the packet covers: it is the same, but for where an image starts, and the image's bytes
 -- are. The set enters a step here alone. Assumes nothing.
 use mathlib.Core.Path.{_≡_, refl, sym, ap, _∙_}
-use mathlib.Core.Bool.{true}
 use mathlib.Core.List.{List, []}
+use mathlib.Core.Option.{none, some}
 use Prim.Native.Nat.{ℕ}
 use lib.Dec.{ltb, eqb}
 use lib.ListN.{take, drop}
@@ -18,13 +18,13 @@ use Rattle.packet.specs.declared.SaharaPacketBody.{SaharaPacketBody}
 use Rattle.packet.specs.declared.SaharaPacketBody.the-variants as B
 use Rattle.packet.specs.declared.Decoded.{Decoded}
 use Rattle.packet.specs.declared.Decoded.the-variants as D
-use Rattle.verdict.specs.Verdict.{exactly, imageFor, endFor, doneFor, executeFor, room, onBody, onDecoded, verdictOf}
+use Rattle.verdict.specs.Verdict.{exactly, imageFor, executeFor, room, onBody, onDecoded, verdictOf}
 use Rattle.verdict.specs.declared.ExecCommand.{ExecCommand}
 use Rattle.verdict.specs.declared.ExecCommand.the-variants as X
 use Rattle.verdict.specs.declared.Opening.{Opening}
 use Rattle.verdict.specs.declared.Verdict.{Verdict}
 use Rattle.verdict.specs.declared.Verdict.the-variants as W
-use Rattle.two_runs.specs.Alike.{SameShape, covered, coveredBy, coveredOn, coveredOf}
+use Rattle.two_runs.specs.Alike.{SameShape, imageRead, readBy, readIn, covered, coveredOf}
 use Rattle.two_runs.proofs.Range.{rangeAside, rangeBytes, ranges-aside, ranges-bytes}
 
 -- where an image starts aside
@@ -72,13 +72,13 @@ module _ (a b : List ℕ) (same : SameShape a b) where
   -- ---- packets that do
 
   read-alike : (size len id offset k : ℕ)
-      → pick (eqb len size) (covered a id offset k) [] ≡ pick (eqb len size) (covered b id offset k) []
+      → (let r = pick (eqb len size) (some (imageRead id offset k)) none in covered a r ≡ covered b r)
       → VerdictsAlike a b (exactly len size (imageFor (rangeUnjudged a id offset k))) (exactly len size (imageFor (rangeUnjudged b id offset k)))
   read-alike size len id offset k h =
       by-test
       (eqb len size)
       (λ t.
-      let e : covered a id offset k ≡ covered b id offset k = rw t at h in
+      let e : covered a (some (imageRead id offset k)) ≡ covered b (some (imageRead id offset k)) = rw t at h in
       rw
       t
       (record {
@@ -100,7 +100,7 @@ module _ (a b : List ℕ) (same : SameShape a b) where
     execute-unread (X.Is c) = refl
     execute-unread X.None = refl
 
-    body-alike : (len : ℕ) (x : SaharaPacketBody) → coveredBy a len x ≡ coveredBy b len x
+    body-alike : (len : ℕ) (x : SaharaPacketBody) → covered a (readBy len x) ≡ covered b (readBy len x)
         → VerdictsAlike a b (onBody u a tsize rsize len x) (onBody u b tsize rsize len x)
     body-alike len (B.HelloReq x) h = plainly _ (split Unread (eqb len 48) (λ t. refl) (λ t. refl))
     body-alike len (B.HelloResp x) h = plainly (W.Refused 10) refl
@@ -123,7 +123,7 @@ module _ (a b : List ℕ) (same : SameShape a b) where
     body-alike len (B.ReadMem64Req x) h = plainly (W.Refused 10) refl
     body-alike len (B.ReadData64Req x) h = read-alike 32 len (x .image) (x .offset) (x .len) h
 
-    decoded-alike : (x : Decoded) → coveredOn a x ≡ coveredOn b x
+    decoded-alike : (x : Decoded) → covered a (readIn x) ≡ covered b (readIn x)
         → VerdictsAlike a b (onDecoded u a tsize rsize x) (onDecoded u b tsize rsize x)
     decoded-alike (D.Is p) h = body-alike (p .len) (p .body) h
     decoded-alike (D.Refused why) h = plainly (W.Refused why) refl

@@ -37,40 +37,50 @@ pub record SameShape (a b : List ℕ) : Type 0 where
 
 -- ---- what a read covers
 
+-- a read of an image
+pub record ImageRead : Type 0 where
+  pub id : ℕ
+  pub offset : ℕ
+  pub len : ℕ
+
+abbrev pub imageRead : ℕ → ℕ → ℕ → ImageRead
+imageRead i o k = record { id = i; offset = o; len = k }
+
+-- the read that a packet with this length field and body is: a ReadData of 20 bytes, a ReadData64 of 32; any other is none
+abbrev pub readBy : ℕ → SaharaPacketBody → Option ImageRead
+readBy len (B.HelloReq b) = none
+readBy len (B.HelloResp b) = none
+readBy len (B.ReadReq b) = pick (eqb len 20) (some (imageRead (b .image) (b .offset) (b .len))) none
+readBy len (B.Eoi b) = none
+readBy len B.DoneReq = none
+readBy len (B.DoneResp b) = none
+readBy len B.ResetResp = none
+readBy len (B.DebugReq b) = none
+readBy len (B.ReadMemReq b) = none
+readBy len B.CommandReady = none
+readBy len (B.ExecResp b) = none
+readBy len (B.ExecData b) = none
+readBy len (B.Debug64Req b) = none
+readBy len (B.ReadMem64Req b) = none
+readBy len (B.ReadData64Req b) = pick (eqb len 32) (some (imageRead (b .image) (b .offset) (b .len))) none
+
+abbrev pub readIn : Decoded → Option ImageRead
+readIn (D.Is p) = readBy (p .len) (p .body)
+readIn (D.Refused why) = none
+
 -- the bytes of an image from an offset on, so many, where they lie within it; else the read is refused (12, 13) and covers none
 abbrev pub coveredIn : Content → ℕ → ℕ → List ℕ
 coveredIn none offset len = []
 coveredIn (some s) offset len = pick (leb (offset + len) (length s)) (take len (drop offset s)) []
 
--- of an image ID
-abbrev pub covered : List ℕ → ℕ → ℕ → ℕ → List ℕ
-covered set id offset len = coveredIn (contentOf set (slotFor (countOf set) id)) offset len
+-- of the slot that an image ID means
+abbrev pub covered : List ℕ → Option ImageRead → List ℕ
+covered set none = []
+covered set (some r) = coveredIn (contentOf set (slotFor (countOf set) (r .id))) (r .offset) (r .len)
 
--- of a packet with this length field and body: a ReadData of 20 bytes, a ReadData64 of 32; any other covers none
-abbrev pub coveredBy : List ℕ → ℕ → SaharaPacketBody → List ℕ
-coveredBy set len (B.HelloReq b) = []
-coveredBy set len (B.HelloResp b) = []
-coveredBy set len (B.ReadReq b) = pick (eqb len 20) (covered set (b .image) (b .offset) (b .len)) []
-coveredBy set len (B.Eoi b) = []
-coveredBy set len B.DoneReq = []
-coveredBy set len (B.DoneResp b) = []
-coveredBy set len B.ResetResp = []
-coveredBy set len (B.DebugReq b) = []
-coveredBy set len (B.ReadMemReq b) = []
-coveredBy set len B.CommandReady = []
-coveredBy set len (B.ExecResp b) = []
-coveredBy set len (B.ExecData b) = []
-coveredBy set len (B.Debug64Req b) = []
-coveredBy set len (B.ReadMem64Req b) = []
-coveredBy set len (B.ReadData64Req b) = pick (eqb len 32) (covered set (b .image) (b .offset) (b .len)) []
-
-abbrev pub coveredOn : List ℕ → Decoded → List ℕ
-coveredOn set (D.Is p) = coveredBy set (p .len) (p .body)
-coveredOn set (D.Refused why) = []
-
--- of the packet whose bytes are p
+-- what the packet whose bytes are p covers of a set
 unfoldable pub coveredOf : List ℕ → List ℕ → List ℕ
-coveredOf set p = coveredOn set (decodeOf p)
+coveredOf set p = covered set (readIn (decodeOf p))
 
 -- ---- what a step covers
 

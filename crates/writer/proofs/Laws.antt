@@ -9,14 +9,13 @@ use Prim.Native.Nat.{ℕ, zero, suc, _+_, _*_, _^_, _<_, _≤_}
 use native.Mathlib.Nat.{add-zero, zero-add}
 use native.Mathlib.Omega.{arith}
 use borrow.Author.Tests.{le-leb, ne-eqb}
-use lib.ListN.{length, getD, take, drop, length-append, length-drop, length-map, List·getD-map, List·getD-append, List·getD-eq-default}
-use lib.Seq.{length-take-le, take-append-seam, drop-append-add, drop-at, getD-append-add, drop-drop}
+use lib.ListN.{length, getD, take, drop, length-append, length-map, List·getD-map, List·getD-append, List·getD-eq-default}
+use lib.Seq.{take-append-seam, drop-append-add, drop-at, getD-append-add, drop-drop}
 use Rattle.base.proofs.Ranges.{below-or-not}
 use Rattle.field.specs.Field.{le, words}
 use Rattle.field.proofs.Laws.{length-fields, field-back, fields-append}
 use Rattle.bundle.specs.Bundle.{countOf, dataSizeOf, slotStartOf, slotLengthOf, dataFrom, absent, slotGood, wellFormed, slotOf}
 use Rattle.bundle.proofs.Laws.{is-formed, slot-absent, slot-present, content-past}
-use Rattle.bundle.specs.declared.Slot.{Slot}
 use Rattle.bundle.specs.declared.Slot.the-variants as S
 use Rattle.bundle.specs.Content.{Content, isPresent, bytesIn, sizeIn, contentAt, contentOf}
 use Rattle.writer.specs.Writer.{dataOf, startFor, startsFrom, bundleBytes, mostData}
