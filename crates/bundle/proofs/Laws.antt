@@ -1,18 +1,22 @@
--- Laws of bundles: the slots one by one, what a well-formed bundle is made of, and where its slots lie.
-use mathlib.Core.Path.{_≡_, refl, sym, _∙_}
+-- Laws of bundles: the slots one by one, what a well-formed bundle is made of, where its slots lie, and how much they hold.
+use mathlib.Core.Path.{_≡_, refl, sym, ap, _∙_}
 use mathlib.Core.Bool.{Bool, true, false, false≢true}
 use mathlib.Core.List.{List}
+use mathlib.Core.Option.{none}
 use Prim.Native.Nat.{ℕ, zero, suc, _+_, _-_, _*_, _<_, _≤_}
 use native.Mathlib.Omega.{arith}
 use native.Mathlib.Nat.{add-zero, zero-add}
 use native.Mathlib.Numerals.{add-one}
 use borrow.Author.Tests.{ltb-false, leb-true, eqb-true, le-ltb, le-leb, lt-leb, eq-eqb}
 use lib.Dec.{ltb, leb, eqb}
-use lib.ListN.{length}
+use lib.ListN.{length, take, drop, length-drop}
+use lib.Seq.{length-take-le}
 use Rattle.base.specs.Choice.{pick}
 use Rattle.base.proofs.Ranges.{by-else, by-then, either}
 use Rattle.bundle.specs.Bundle.{countOf, dataSizeOf, slotStartOf, slotLengthOf, dataFrom, absent, slotGood, slotsGood, wellFormed, slotOf}
+use Rattle.bundle.specs.Content.{sizeIn, contentAt, contentOf}
 use Rattle.bundle.specs.declared.Checked.the-variants as C
+use Rattle.bundle.specs.declared.Slot.{Slot}
 use Rattle.bundle.specs.declared.Slot.the-variants as S
 
 -- what a check's answer tells of its test
@@ -149,3 +153,14 @@ slot-within b i s l h =
     let g : slotLengthOf b i ≡ l = cc in
     let r : dataFrom b + slotStartOf b i + slotLengthOf b i ≤ length b = ltb-false _ _ (f .0) in
     omega arith
+
+-- a slot that is there has as many bytes as it says
+pub length-there : (b : List ℕ) (i start size : ℕ) → slotOf b i ≡ S.At start size → length (take size (drop start b)) ≡ size
+length-there b i start size e = length-take-le size (drop start b) (rw length-drop (omega (arith, slot-within b i start size e)))
+
+pub size-there : (b : List ℕ) (i start size : ℕ) → slotOf b i ≡ S.At start size → sizeIn (contentOf b i) ≡ size
+size-there b i start size e = ap (λ (x : Slot). sizeIn (contentAt b x)) e ∙ length-there b i start size e
+
+-- past the count there is nothing
+pub content-past : (b : List ℕ) (i : ℕ) → countOf b ≤ i → contentOf b i ≡ none
+content-past b i h = ap (contentAt b) (slot-past b i h)

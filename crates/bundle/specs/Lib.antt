@@ -1,1 +1,2 @@
 pub mod Bundle
+pub mod Content

@@ -6,6 +6,8 @@ use Rattle.command.specs.Command.{modeOf, kinds, unimplemented, classOf}
 use Rattle.packet.specs.Packet.{kindOf, decodeOf}
 use Rattle.build.specs.Build.{bytesOf}
 use Rattle.bundle.specs.Bundle.{slotsGood, wellFormed, slotOf}
+use Rattle.writer.specs.Writer.{dataOf, startsFrom, bundleBytes}
+use Rattle.tidied.specs.Tidy.{firstContents, tidyLenOf, tidyOf}
 use Rattle.image.specs.Image.{rangeOf}
 use Rattle.utf8.specs.Utf8.{table as rows3-7, leads, afterFirst, goesOn}
 use Rattle.filename.specs.Filename.{before, has, stemOf, openCheck, afterOpenCheck}
@@ -17,10 +19,10 @@ use Rattle.session.specs.BetweenPhase.{betweenOf}
 use Rattle.session.specs.RegionPhase.{nextChunk, askOf, handOf, regionOf}
 use Rattle.session.specs.Limits.{limitOf}
 use Rattle.session.specs.Step.{stepOf}
-use Rattle.examples.specs.Rows.{rows, modeOne, oldBoards, all}
+use Rattle.examples.specs.Rows.{rows, modeOne, oldBoards, trailing, all}
 
-pub table : T (all (rows ++ (modeOne ++ oldBoards)))
-unfolding rows modeOne oldBoards le leBytes modeOf kinds unimplemented classOf kindOf decodeOf fields bytesOf slotsGood wellFormed slotOf rangeOf rows3-7
+pub table : T (all (rows ++ (modeOne ++ (oldBoards ++ trailing))))
+unfolding rows modeOne oldBoards trailing le leBytes modeOf kinds unimplemented classOf kindOf decodeOf fields bytesOf slotsGood wellFormed slotOf dataOf startsFrom bundleBytes firstContents tidyLenOf tidyOf rangeOf rows3-7
     leads afterFirst goesOn before stemOf low namesFrom same member selected verdictOf responseOf has openCheck
     afterOpenCheck nextOf chunkOf betweenOf nextChunk askOf handOf regionOf limitOf stepOf
 table = tt

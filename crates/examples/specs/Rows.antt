@@ -5,7 +5,7 @@ use mathlib.Core.Bool.{Bool, true, false}
 use mathlib.Core.List.{List, [], _∷_, _++_}
 use lib.ListN.{length, replicate, take}
 use Rattle.base.specs.Choice.{pick}
-use Rattle.field.specs.Field.{leBytes, fieldSize, fields}
+use Rattle.field.specs.Field.{leBytes, fieldSize, fields, words}
 use Rattle.field.specs.declared.Width.{Width}
 use Rattle.field.specs.declared.Width.the-variants as WI
 use Rattle.command.specs.declared.SaharaMode.{SaharaMode}
@@ -18,6 +18,7 @@ use Rattle.packet.specs.declared.LengthCheck.the-variants as L
 use Rattle.image.specs.Image.{rangeOf}
 use Rattle.image.specs.declared.ImageRange.{ImageRange}
 use Rattle.image.specs.declared.ImageRange.the-variants as R
+use Rattle.tidied.specs.Tidy.{tidyOf}
 use Rattle.selection.specs.Selection.{same, selected}
 use Rattle.verdict.specs.Verdict.{verdictOf}
 use Rattle.verdict.specs.declared.ExecCommand.the-variants as X
@@ -123,12 +124,29 @@ ten = leBytes 4 1 ++ (leBytes 4 10 ++ (leBytes 4 0 ++ (leBytes 4 10 ++ replicate
 abbrev pub two : List ℕ
 two = leBytes 4 2 ++ (leBytes 4 10 ++ (leBytes 4 0 ++ (leBytes 4 5 ++ (leBytes 4 5 ++ (leBytes 4 5 ++ replicate 10 7)))))
 
--- a whole packet, in a session opened with a mode, and with mode 0
+-- "A set with one image and an absent second slot": the image has 10 bytes and starts behind a gap of 3. And its tidy form, which has 34 bytes
+abbrev pub oneOfTwo : List ℕ
+oneOfTwo = words (2 ∷ 13 ∷ 3 ∷ 0xFFFFFFFF ∷ 10 ∷ 0 ∷ []) ++ (replicate 3 0 ++ replicate 10 7)
+
+abbrev pub tidy : List ℕ
+tidy = tidyOf oneOfTwo (replicate 34 0) .to
+
+-- a whole packet, a set being lent, in a session opened with a mode; without images, and with mode 0
+abbrev pub judgedWith : List ℕ → SaharaMode → List ℕ → Says
+judgedWith set m p = ofVerdict (verdictOf (opening m) set 65536 4096 p)
+
 abbrev pub judgedIn : SaharaMode → List ℕ → Says
-judgedIn m p = ofVerdict (verdictOf (opening m) none 65536 4096 p)
+judgedIn = judgedWith none
 
 abbrev pub judged : List ℕ → Says
 judged = judgedIn M.WaitingForImage
+
+-- a ReadData of an image's first 10 bytes, and a DoneResp of status 0
+abbrev pub serves : List ℕ → ℕ → Says
+serves set id = judgedWith set M.WaitingForImage (packet 3 20 (fields 4 (id ∷ 0 ∷ 10 ∷ [])))
+
+abbrev pub done : List ℕ → Says
+done set = judgedWith set M.WaitingForImage (packet 6 12 (leBytes 4 0))
 
 -- what is sent when a response is whole, here one without bytes, in a session opened with a mode
 abbrev pub switched : SaharaMode → Says
@@ -277,6 +295,20 @@ oldBoards =
     ∷ example (atEntry WI.Bits32 1260) (refused 18)
     ∷ example (atEntry WI.Bits64 1023) (handsOut 1)
     ∷ example (atEntry WI.Bits64 1024) (refused 18)
+    ∷ []
+
+-- document 02, request 7: such a set serves its image under ID 0 alone, before and after tidying, and a DoneResp of status 0 does not finish
+unfoldable pub trailing : List Example
+trailing =
+    example (serves oneOfTwo 0) (given (24 + 3) 10)
+    ∷ example (serves tidy 0) (given 24 10)
+    ∷ example (serves oneOfTwo 1) (refused 12)
+    ∷ example (serves tidy 1) (refused 12)
+    ∷ example (done oneOfTwo) ok
+    ∷ example (done tidy) ok
+    -- one slot alone serves every ID, and a DoneResp finishes
+    ∷ example (serves ten 1) (given 16 10)
+    ∷ example (done ten) (finish 1)
     ∷ []
 
 abbrev pub all : List Example → Bool

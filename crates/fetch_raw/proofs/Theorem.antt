@@ -64,7 +64,7 @@ abbrev pub Numbers : Session → Called → Type 0
 Numbers s k = rawOf s ≡ k .numbers
 
 -- both calls are the step
-call-is : (c : Call) (r : RawSession) (d set names t y o : List ℕ) → calledOf c r d set names t y o ≡ stepRaw r d set names t y o
+pub call-is : (c : Call) (r : RawSession) (d set names t y o : List ℕ) → calledOf c r d set names t y o ≡ stepRaw r d set names t y o
 call-is byValue r d set names t y o = refl
 call-is inPlace r d set names t y o = refl
 

@@ -10,10 +10,11 @@ use lib.ListN.{length, take, drop}
 use Rattle.base.proofs.Lists.{part-of-part}
 use Rattle.base.proofs.Ranges.{by-then}
 use Rattle.bundle.specs.Bundle.{wellFormed, countOf, slotOf}
+use Rattle.bundle.specs.Content.{bytesIn, contentAt, contentOf}
 use Rattle.bundle.specs.declared.Slot.{Slot}
 use Rattle.bundle.specs.declared.Slot.the-variants.{At, Absent, Missing}
 use Rattle.bundle.proofs.Laws.{slot-within}
-use Rattle.image.specs.Image.{slotFor, rangeIn, rangeUnjudged, rangeOf, imageIn}
+use Rattle.image.specs.Image.{slotFor, rangeIn, rangeUnjudged, rangeOf}
 use Rattle.image.specs.declared.ImageRange.the-variants as R
 
 refused≢at : {n s k : ℕ} → R.Refused n ≡ R.At s k → ⊥
@@ -60,7 +61,7 @@ pub range-within : (set : List ℕ) (id offset len s k : ℕ) → rangeOf set id
 range-within set id offset len s k h = unjudged-within set id offset len s k (range-in set id offset len s k h)
 
 bytes : (set : List ℕ) (offset len s k : ℕ) (x : Slot) → rangeIn x offset len ≡ R.At s k
-    → take k (drop s set) ≡ take len (drop offset (imageIn set x))
+    → take k (drop s set) ≡ take len (drop offset (bytesIn (contentAt set x)))
 bytes set offset len s k (At start size) h =
     let g = given-in start size offset len s k h in
     rw (part-of-part offset len size start set (g .fits), g .place, g .count) refl
@@ -69,5 +70,5 @@ bytes set offset len s k Missing h = absurd (refused≢at h)
 
 -- an answer's bytes are those of the slot's image from the offset on
 pub range-bytes : (set : List ℕ) (id offset len s k : ℕ) → rangeOf set id offset len ≡ R.At s k
-    → take k (drop s set) ≡ take len (drop offset (imageIn set (slotOf set (slotFor (countOf set) id))))
+    → take k (drop s set) ≡ take len (drop offset (bytesIn (contentOf set (slotFor (countOf set) id))))
 range-bytes set id offset len s k h = bytes set offset len s k (slotOf set (slotFor (countOf set) id)) (range-in set id offset len s k h)

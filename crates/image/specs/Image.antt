@@ -5,7 +5,6 @@ use Prim.Native.Nat.{ℕ, _+_}
 use mathlib.Core.Bool.{true}
 use mathlib.Core.List.{List}
 use lib.Dec.{leb, eqb}
-use lib.ListN.{take, drop}
 use Rattle.base.specs.Choice.{pick}
 use Rattle.base.specs.Told.{Told, toldImage, toldRefused}
 use Rattle.bundle.specs.Bundle.{wellFormed, countOf, slotOf}
@@ -36,9 +35,3 @@ rangeOf set id offset len = pick (wellFormed true set) (rangeUnjudged set id off
 abbrev pub rangeTold : ImageRange → Told
 rangeTold (R.At start k) = toldImage start k
 rangeTold (R.Refused why) = toldRefused why
-
--- the bytes of a slot's image
-abbrev pub imageIn : List ℕ → Slot → List ℕ
-imageIn set (At start size) = take size (drop start set)
-imageIn set Absent = take 0 set
-imageIn set Missing = take 0 set

@@ -1,5 +1,5 @@
 -- From one step to a list of steps, once, over any machine, by induction on the list: the reports of a fair list are a beginning of what was due at
--- its start, and the whole of it once enough steps counted; machines that stay related; and a list in two parts. Assumes nothing.
+-- its start, and the whole of it once enough steps counted; machines that stay related, or do so as long as something holds; and a list in two parts. Assumes nothing.
 use mathlib.Core.Path.{_≡_, refl, sym, ap, _∙_}
 use mathlib.Core.Bool.{Bool}
 use mathlib.Core.List.{List, [], _∷_, _++_, append-assoc, append-nil}
@@ -32,17 +32,45 @@ module _ {S I R : Type 0} (next : S → I → S) (out : S → I → List R) (Fai
     pub whole : (is : List I) (s : S) → Good s → Throughout next Fair s is → mu s ≤ counted next counts s is → rest s ≡ outs next out s is
     whole is s g f h = beginning is s g f ∙ rw (none-left is s g f h, append-nil) refl
 
+-- Two machines whose states stay related under the same list, as long as P holds of each step of the first
+module _ {S S′ I : Type 0} (next : S → I → S) (next′ : S′ → I → S′) (P : S → I → Type 0) (R : S → S′ → Type 0)
+    (kept : (s : S) (s′ : S′) (i : I) → P s i → R s s′ → R (next s i) (next′ s′ i)) where
+  -- what both report of related states is the same, and so of the list
+  pub outs-while : {X : Type 0} (out : S → I → List X) (out′ : S′ → I → List X)
+      → ((s : S) (s′ : S′) (i : I) → P s i → R s s′ → out s i ≡ out′ s′ i)
+      → (is : List I) (s : S) (s′ : S′) → Throughout next P s is → R s s′ → outs next out s is ≡ outs next′ out′ s′ is
+  outs-while out out′ same [] s s′ p r = refl
+  outs-while {X} out out′ same (i ∷ is) s s′ p r =
+      ap (λ (l : List X). l ++ outs next out (next s i) is) (same s s′ i (p .0) r)
+      ∙ ap (λ (l : List X). out′ s′ i ++ l) (outs-while out out′ same is (next s i) (next′ s′ i) (p .1) (kept s s′ i (p .0) r))
+
+  -- the states after the list are related too
+  pub final-while : (is : List I) (s : S) (s′ : S′) → Throughout next P s is → R s s′ → R (final next s is) (final next′ s′ is)
+  final-while [] s s′ p r = r
+  final-while (i ∷ is) s s′ p r = final-while is (next s i) (next′ s′ i) (p .1) (kept s s′ i (p .0) r)
+
+-- what holds of every step holds throughout any list
+pub always : {S I : Type 0} (next : S → I → S) (P : S → I → Type 0) → ((s : S) (i : I) → P s i) → (is : List I) (s : S) → Throughout next P s is
+always next P h [] s = tt
+always next P h (i ∷ is) s = (h s i, always next P h is (next s i))
+
 -- Two machines whose states stay related, step by step, under the same list: a state that carries more for a proof than the machine's own, or the same
 -- machine over other states
 module _ {S S′ I : Type 0} (next : S → I → S) (next′ : S′ → I → S′) (R : S → S′ → Type 0)
     (kept : (s : S) (s′ : S′) (i : I) → R s s′ → R (next s i) (next′ s′ i)) where
-  -- what both report of related states is the same, and so of the list
+  abbrev Any : S → I → Type 0
+  Any s i = Unit
+
+  any : (is : List I) (s : S) → Throughout next Any s is
+  any = always next Any (λ s i. tt)
+
   pub outs-related : {X : Type 0} (out : S → I → List X) (out′ : S′ → I → List X) → ((s : S) (s′ : S′) (i : I) → R s s′ → out s i ≡ out′ s′ i)
       → (is : List I) (s : S) (s′ : S′) → R s s′ → outs next out s is ≡ outs next′ out′ s′ is
-  outs-related out out′ same [] s s′ r = refl
-  outs-related {X} out out′ same (i ∷ is) s s′ r =
-      ap (λ (l : List X). l ++ outs next out (next s i) is) (same s s′ i r)
-      ∙ ap (λ (l : List X). out′ s′ i ++ l) (outs-related out out′ same is (next s i) (next′ s′ i) (kept s s′ i r))
+  outs-related out out′ same is s s′ r =
+      outs-while next next′ Any R (λ s s′ i p. kept s s′ i) out out′ (λ s s′ i p. same s s′ i) is s s′ (any is s) r
+
+  pub final-related : (is : List I) (s : S) (s′ : S′) → R s s′ → R (final next s is) (final next′ s′ is)
+  final-related is s s′ r = final-while next next′ Any R (λ s s′ i p. kept s s′ i) is s s′ (any is s) r
 
   -- how many steps count
   pub counted-related : (counts : S → I → Bool) (counts′ : S′ → I → Bool) → ((s : S) (s′ : S′) (i : I) → R s s′ → counts s i ≡ counts′ s′ i)
@@ -58,11 +86,6 @@ module _ {S S′ I : Type 0} (next : S → I → S) (next′ : S′ → I → S�
   fair-related Fair Fair′ same [] s s′ r f = tt
   fair-related Fair Fair′ same (i ∷ is) s s′ r f =
       (same s s′ i r (f .0), fair-related Fair Fair′ same is (next s i) (next′ s′ i) (kept s s′ i r) (f .1))
-
-  -- the states after the list are related too
-  pub final-related : (is : List I) (s : S) (s′ : S′) → R s s′ → R (final next s is) (final next′ s′ is)
-  final-related [] s s′ r = r
-  final-related (i ∷ is) s s′ r = final-related is (next s i) (next′ s′ i) (kept s s′ i r)
 
 -- A list in two parts: the second begins where the first ends
 module _ {S I : Type 0} (next : S → I → S) where

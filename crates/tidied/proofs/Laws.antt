@@ -1,4 +1,4 @@
--- Laws of the tidy form: one slot more of a set's, how many are kept, what is stored where, the outcomes. Assumes nothing.
+-- Laws of the tidy form: one slot more of a set's, what is stored where, the outcomes. Assumes nothing.
 use mathlib.Core.Path.{_≡_, refl, sym, ap, _∙_}
 use mathlib.Core.Bool.{true, false}
 use mathlib.Core.Logic.{⊎-elim}
@@ -12,14 +12,14 @@ use lib.Dec.{ltb}
 use lib.ListN.{length, getD, drop, length-append, length-map, List·getD-append}
 use lib.Seq.{sets, getD-at}
 use Rattle.base.proofs.Lists.{sets-append, sets-behind, sets-front}
-use Rattle.base.proofs.Ranges.{below-or-not, by-test, by-then, by-else}
+use Rattle.base.proofs.Ranges.{below-or-not, by-then, by-else}
 use Rattle.field.specs.Field.{leBytes, fields, words}
 use Rattle.field.proofs.Laws.{length-fields, fields-stored}
 use Rattle.bundle.specs.Bundle.{countOf, wellFormed}
-use Rattle.bundle.proofs.Laws.{formed}
-use Rattle.writer.specs.Writer.{Content, isPresent, bytesIn, sizeIn, contentOf, dataOf, startFor, startsFrom, bundleBytes, mostData}
+use Rattle.bundle.specs.Content.{Content, bytesIn, sizeIn, contentOf}
+use Rattle.writer.specs.Writer.{dataOf, startFor, startsFrom, bundleBytes, mostData}
 use Rattle.writer.proofs.Laws.{data-more, starts-more, length-starts, length-bundle}
-use Rattle.tidied.specs.Tidy.{keptCount, firstContents, slotsKept, tidyBytes, tidyData, tidyLenOf, tidyOf, tidyOutcome}
+use Rattle.tidied.specs.Tidy.{firstContents, contentsOf, tidyBytes, tidyData, tidyLenOf, tidyOf, tidyOutcome}
 use Rattle.tidied.specs.declared.Tidied.the-variants as T
 
 -- the answers differ
@@ -53,28 +53,6 @@ module _ (set : List ℕ) where
       let e : k ≡ i = omega arith in
       getD-at (firstContents set k) (contentOf set k) [] none i (length-first k ∙ e) ∙ ap (contentOf set) e)
       (below-or-not i k)
-
-  -- ---- how many are kept
-
-  pub kept-none : keptCount set 0 ≡ 0
-  unfolding keptCount
-  kept-none = refl
-
-  pub kept-present : (k : ℕ) → isPresent (contentOf set k) ≡ true → keptCount set (suc k) ≡ suc k
-  unfolding keptCount
-  kept-present k h = simp h
-
-  pub kept-absent : (k : ℕ) → isPresent (contentOf set k) ≡ false → keptCount set (suc k) ≡ keptCount set k
-  unfolding keptCount
-  kept-absent k h = simp h
-
-  pub kept-most : (k : ℕ) → keptCount set k ≤ k
-  kept-most zero = rw kept-none (omega arith)
-  kept-most (suc k) =
-      by-test
-      (isPresent (contentOf set k))
-      (λ h. rw (kept-present k h) (omega arith))
-      (λ h. rw (kept-absent k h) (omega (arith, kept-most k)))
 
   -- ---- data bytes
 
@@ -170,13 +148,8 @@ module _ (set : List ℕ) where
 
   -- ---- the tidy form
 
-  -- of at most 64 slots
-  pub kept-few : wellFormed true set ≡ true → keptCount set (countOf set) ≤ 64
-  kept-few h = omega (arith, kept-most (countOf set), formed true set h .few)
-
-  pub length-tidy : length (tidyBytes set) ≡ 8 + 8 * keptCount set (countOf set) + tidyData set
-  length-tidy =
-      length-bundle (slotsKept set) ∙ ap (λ (k : ℕ). 8 + 8 * k + tidyData set) (length-first (keptCount set (countOf set)))
+  pub length-tidy : length (tidyBytes set) ≡ 8 + 8 * countOf set + tidyData set
+  length-tidy = length-bundle (contentsOf set) ∙ ap (λ (k : ℕ). 8 + 8 * k + tidyData set) (length-first (countOf set))
 
   -- ---- outcomes
 

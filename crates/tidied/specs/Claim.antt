@@ -1,19 +1,22 @@
 -- What document 02, request 6, claims of the tidy form: "Two sets are equal if each ID below 64, looked up as a plain slot, has the same bytes or is absent in both;
--- where neither is refused, equal sets must have equal tidy bytes, and only they. Tidying twice is tidying once."
+-- where neither is refused, equal sets must have equal tidy bytes, and only they. Tidying twice is tidying once." Request 7: "From now on sets are equal only if their
+-- slot counts agree too". What it claims of sessions: two_runs/specs/Claim.
 use Prim.Native.Nat.{ℕ, _<_}
 use mathlib.Core.Path.{_≡_}
 use mathlib.Core.Bool.{true}
 use mathlib.Core.Logic.{_↔_}
 use mathlib.Core.List.{List}
 use lib.ListN.{take}
-use Rattle.bundle.specs.Bundle.{wellFormed}
-use Rattle.writer.specs.Writer.{contentOf}
+use Rattle.bundle.specs.Bundle.{countOf, wellFormed}
+use Rattle.bundle.specs.Content.{contentOf}
 use Rattle.tidied.specs.Tidy.{tidyOf}
 use Rattle.tidied.specs.declared.Tidied.the-variants as T
 
--- "Two sets are equal if each ID below 64, looked up as a plain slot, has the same bytes or is absent in both": no one-image rule
-abbrev pub EqualSets : List ℕ → List ℕ → Type 0
-EqualSets a b = (id : ℕ) → id < 64 → contentOf a id ≡ contentOf b id
+-- "Two sets are equal if each ID below 64, looked up as a plain slot, has the same bytes or is absent in both": no one-image rule; "only if their slot counts agree
+-- too"
+pub record EqualSets (a b : List ℕ) : Type 0 where
+  pub counts : countOf a ≡ countOf b
+  pub contents : (id : ℕ) → id < 64 → contentOf a id ≡ contentOf b id
 
 -- the set is not refused with some buffer, whose first bytes are then its tidy form
 pub record TidyForm (set form : List ℕ) : Type 0 where

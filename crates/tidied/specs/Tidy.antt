@@ -1,7 +1,7 @@
 -- The tidy form of an image set. Document 02, request 6: "Write the tidy form: data in slot order, each present image's bytes once for its slot, no gaps, an empty
--- image starting where the bytes before it end (so in every bundle we write), absent slots marked, trailing absent slots dropped. .. 28 when the set is malformed,
--- checked first. 29 when the tidy form does not fit the lent buffer or passes 2^32 - 2 data bytes (an empty image must not start at the absent mark), buffer
--- untouched." What a bundle of these slots looks like: writer/specs/Writer.
+-- image starting where the bytes before it end (so in every bundle we write), absent slots marked .. 28 when the set is malformed, checked first. 29 when the tidy
+-- form does not fit the lent buffer or passes 2^32 - 2 data bytes (an empty image must not start at the absent mark), buffer untouched." Request 7, in the place of
+-- "trailing absent slots dropped": "tidying preserves the count". What a bundle of these slots looks like: writer/specs/Writer.
 use Prim.Native.Nat.{ℕ, zero, suc}
 use mathlib.Core.Bool.{true}
 use mathlib.Core.List.{List, [], _∷_, _++_}
@@ -10,30 +10,26 @@ use lib.ListN.{length, drop}
 use Rattle.base.specs.Choice.{pick}
 use Rattle.base.specs.Told.{Told, told, toldRefused}
 use Rattle.bundle.specs.Bundle.{countOf, wellFormed}
-use Rattle.writer.specs.Writer.{Content, isPresent, contentOf, dataOf, bundleBytes, mostData}
+use Rattle.bundle.specs.Content.{Content, contentOf}
+use Rattle.writer.specs.Writer.{dataOf, bundleBytes, mostData}
 use Rattle.tidied.specs.declared.Tidied.{Tidied}
 use Rattle.tidied.specs.declared.Tidied.the-variants as T
-
--- "trailing absent slots dropped": of k slots, how many are left
-unfoldable pub keptCount : List ℕ → ℕ → ℕ
-keptCount set zero = 0
-keptCount set (suc k) = pick (isPresent (contentOf set k)) (suc k) (keptCount set k)
 
 -- the contents of the first k slots, in slot order
 unfoldable pub firstContents : List ℕ → ℕ → List Content
 firstContents set zero = []
 firstContents set (suc k) = firstContents set k ++ contentOf set k ∷ []
 
--- the slots of the tidy form
-abbrev pub slotsKept : List ℕ → List Content
-slotsKept set = firstContents set (keptCount set (countOf set))
+-- of all slots: "tidying preserves the count"
+abbrev pub contentsOf : List ℕ → List Content
+contentsOf set = firstContents set (countOf set)
 
 -- the tidy form, and its data bytes
 abbrev pub tidyBytes : List ℕ → List ℕ
-tidyBytes set = bundleBytes (slotsKept set)
+tidyBytes set = bundleBytes (contentsOf set)
 
 abbrev pub tidyData : List ℕ → ℕ
-tidyData set = length (dataOf (slotsKept set))
+tidyData set = length (dataOf (contentsOf set))
 
 -- how long it is: "28 when the set is malformed, checked first. 29 when the tidy form .. passes 2^32 - 2 data bytes"
 unfoldable pub tidyLenOf : List ℕ → Tidied

@@ -16,9 +16,9 @@ ghost use lib.Seq.{sets};
 ghost use Rattle.base.specs.Told.{Tells};
 ghost use Rattle.bundle.specs.Bundle.{countOf};
 ghost use Rattle.field.specs.Field.{words};
-ghost use Rattle.writer.specs.Writer.{isPresent, bytesIn, sizeIn, contentOf, dataOf, startFor, startsFrom, bundleBytes, mostData};
+ghost use Rattle.bundle.specs.Content.{bytesIn, sizeIn, contentOf};
+ghost use Rattle.writer.specs.Writer.{dataOf, startFor, startsFrom, bundleBytes, mostData};
 ghost use Rattle.tidied.specs.Tidy.{
-  keptCount,
   firstContents,
   tidyLenOf,
   tidyOf,
@@ -32,17 +32,6 @@ const MOST: usize = 0xFFFFFFFE;
 
 // The start of an absent slot.
 const ABSENT: u32 = 0xFFFFFFFF;
-
-// Whether slot i is present.
-fn is_present(set: &[u8], i: usize) -> bool
-    ensures { λ r. ⌜ r ≡ isPresent (contentOf (now (set .entry)) i) ⌝ }
-{
-    match slot_at(set, SlotNumber(i)) {
-        Slot::At(_, _) => true,
-        Slot::Absent => false,
-        Slot::Missing => false,
-    }
-}
 
 // The bytes of slot i: how many.
 fn size_at(set: &[u8], i: usize) -> usize
@@ -66,25 +55,11 @@ fn start_at(set: &[u8], i: usize, before: u32) -> u32
     }
 }
 
-// Of n slots those up to the last that is present: how many.
-fn kept_count(set: &[u8], n: usize) -> usize
-    ensures { λ r. ⌜ r ≡ keptCount (now (set .entry)) n ⌝ }
+// The slots of a set: how many.
+fn slot_count(set: &[u8]) -> usize
+    ensures { λ r. ⌜ r ≡ countOf (now (set .entry)) ⌝ }
 {
-    let mut k = n;
-    while 0 < k {
-        if is_present(set, k - 1) {
-            return k;
-        }
-        k -= 1;
-    }
-    0
-}
-
-// The slots of the tidy form: how many.
-fn form_count(set: &[u8]) -> usize
-    ensures { λ r. ⌜ r ≡ keptCount (now (set .entry)) (countOf (now (set .entry))) ⌝ }
-{
-    kept_count(set, u32_padded(set, 0) as usize)
+    u32_padded(set, 0) as usize
 }
 
 // The data bytes of the first n slots: how many, and of too many one more than the most.
@@ -111,7 +86,7 @@ pub fn tidy_len(set: &[u8]) -> Tidied
     let Checked::Good = check_images(set) else {
         return Tidied::Refused(28);
     };
-    let n = form_count(set);
+    let n = slot_count(set);
     let size = data_size(set, n);
     if MOST < size {
         return Tidied::Refused(29);
@@ -196,7 +171,7 @@ fn tidy_of(set: &[u8], to: &mut [u8], len: usize) -> Tidied
     if to.len() < len {
         return Tidied::Refused(29);
     }
-    let n = form_count(set);
+    let n = slot_count(set);
     put_form(to, set, n, len - 8 - 8 * n);
     Tidied::Made(len)
 }

@@ -9,16 +9,16 @@ use Prim.Native.Nat.{ℕ, zero, suc, _+_, _*_, _^_, _<_, _≤_}
 use native.Mathlib.Nat.{add-zero, zero-add}
 use native.Mathlib.Omega.{arith}
 use borrow.Author.Tests.{le-leb, ne-eqb}
-use lib.ListN.{length, getD, take, drop, length-append, length-drop, length-map, List·getD-map, List·getD-append, List·getD-eq-default}
-use lib.Seq.{length-take-le, take-append-seam, drop-append-add, drop-at, getD-append-add, drop-drop}
+use lib.ListN.{length, getD, take, drop, length-append, length-map, List·getD-map, List·getD-append, List·getD-eq-default}
+use lib.Seq.{take-append-seam, drop-append-add, drop-at, getD-append-add, drop-drop}
 use Rattle.base.proofs.Ranges.{below-or-not}
 use Rattle.field.specs.Field.{le, words}
 use Rattle.field.proofs.Laws.{length-fields, field-back, fields-append}
 use Rattle.bundle.specs.Bundle.{countOf, dataSizeOf, slotStartOf, slotLengthOf, dataFrom, absent, slotGood, wellFormed, slotOf}
-use Rattle.bundle.proofs.Laws.{is-formed, slot-absent, slot-present, slot-past, slot-within}
-use Rattle.bundle.specs.declared.Slot.{Slot}
+use Rattle.bundle.proofs.Laws.{is-formed, slot-absent, slot-present, content-past}
 use Rattle.bundle.specs.declared.Slot.the-variants as S
-use Rattle.writer.specs.Writer.{Content, isPresent, bytesIn, sizeIn, contentAt, contentOf, dataOf, startFor, startsFrom, bundleBytes, mostData}
+use Rattle.bundle.specs.Content.{Content, isPresent, bytesIn, sizeIn, contentAt, contentOf}
+use Rattle.writer.specs.Writer.{dataOf, startFor, startsFrom, bundleBytes, mostData}
 
 -- ---- one slot more
 
@@ -193,13 +193,5 @@ module _ (xs : List Content) (few : length xs ≤ 64) (little : length (dataOf x
       ⊎-elim
       (λ (h : i < length xs). within-back i h (getD xs i none) refl)
       (λ (h : length xs ≤ i).
-      ap (contentAt (bundleBytes xs)) (slot-past (bundleBytes xs) i (omega (arith, count-back))) ∙ sym (List·getD-eq-default xs none h))
+      content-past (bundleBytes xs) i (omega (arith, count-back)) ∙ sym (List·getD-eq-default xs none h))
       (below-or-not i (length xs))
-
--- ---- what is read of any bundle
-
--- a slot that is there has as many bytes as it says
-pub size-there : (b : List ℕ) (i start size : ℕ) → slotOf b i ≡ S.At start size → sizeIn (contentOf b i) ≡ size
-size-there b i start size e =
-    ap (λ (x : Slot). sizeIn (contentAt b x)) e
-    ∙ length-take-le size (drop start b) (rw length-drop (omega (arith, slot-within b i start size e)))

@@ -1,45 +1,12 @@
 -- A bundle written from its slots' contents. Document 01, Records, "Bundle": "Slot count n (4 bytes, 0..64), data size d (4 bytes), n starts, n lengths (4 bytes
 -- each), d data bytes"; "Start 0xFFFFFFFF with length 0 means absent". Document 02, request 6: "data in slot order, each present image's bytes once for its slot,
--- no gaps, an empty image starting where the bytes before it end (so in every bundle we write), absent slots marked".
+-- no gaps, an empty image starting where the bytes before it end (so in every bundle we write), absent slots marked". What a slot holds: bundle/specs/Content.
 use Prim.Native.Nat.{ℕ, _+_}
-use mathlib.Core.Bool.{Bool, true, false}
 use mathlib.Core.List.{List, [], _∷_, _++_, map}
-use mathlib.Core.Option.{Option, none, some}
-use lib.ListN.{length, take, drop}
+use mathlib.Core.Option.{none, some}
+use lib.ListN.{length}
 use Rattle.field.specs.Field.{words}
-use Rattle.bundle.specs.Bundle.{slotOf}
-use Rattle.bundle.specs.declared.Slot.{Slot}
-use Rattle.bundle.specs.declared.Slot.the-variants.{At, Absent, Missing}
-
--- a slot's content: its bytes, which are none where it is empty; or nothing, where it is absent
-abbrev pub Content : Type 0
-Content = Option (List ℕ)
-
--- whether it is present, its bytes, and how many they are
-abbrev pub isPresent : Content → Bool
-isPresent none = false
-isPresent (some s) = true
-
-abbrev pub bytesIn : Content → List ℕ
-bytesIn none = []
-bytesIn (some s) = s
-
-abbrev pub sizeIn : Content → ℕ
-sizeIn x = length (bytesIn x)
-
--- ---- read
-
--- the content of a slot of a bundle; nothing where there is no such slot
-abbrev pub contentAt : List ℕ → Slot → Content
-contentAt b (At start size) = some (take size (drop start b))
-contentAt b Absent = none
-contentAt b Missing = none
-
--- of slot i
-abbrev pub contentOf : List ℕ → ℕ → Content
-contentOf b i = contentAt b (slotOf b i)
-
--- ---- written
+use Rattle.bundle.specs.Content.{Content, bytesIn, sizeIn}
 
 -- "data in slot order, each present image's bytes once for its slot, no gaps"
 unfoldable pub dataOf : List Content → List ℕ

@@ -12,8 +12,8 @@ use Rattle.bundle.specs.Bundle.{slotOf}
 use Rattle.bundle.specs.declared.Slot.{Slot}
 use Rattle.bundle.specs.declared.Slot.the-variants as S
 use Rattle.bundle.proofs.Laws.{slot-within}
-use Rattle.writer.specs.Writer.{bytesIn, contentAt}
-use Rattle.writer.proofs.Laws.{size-there}
+use Rattle.bundle.specs.Content.{bytesIn, contentAt}
+use Rattle.bundle.proofs.Laws.{size-there}
 use borrow.Author.Needs.{needs}
 use Rattle.tidy.proofs.put_content.Statement.{statement}
 use Rattle.tidy.proofs.put_content.Tie as tie

@@ -7,7 +7,8 @@ use native.Mathlib.Omega.{arith}
 use denote.Ref.{now}
 use lib.ListN.{length}
 use lib.Seq.{sets, length-sets}
-use Rattle.writer.specs.Writer.{bytesIn, contentOf, dataOf}
+use Rattle.bundle.specs.Content.{bytesIn, contentOf}
+use Rattle.writer.specs.Writer.{dataOf}
 use Rattle.tidied.specs.Tidy.{firstContents}
 use Rattle.tidied.proofs.Laws.{data-none, data-grows, data-up-to, data-stored}
 use borrow.Author.Needs.{needs}

@@ -9,7 +9,7 @@ use lib.ListN.{length}
 use lib.Seq.{sets, length-sets}
 use Rattle.field.specs.Field.{Written, leBytes, fields, words}
 use Rattle.field.proofs.Laws.{put-done}
-use Rattle.writer.specs.Writer.{sizeIn, contentOf}
+use Rattle.bundle.specs.Content.{sizeIn, contentOf}
 use Rattle.tidied.specs.Tidy.{firstContents}
 use Rattle.tidied.proofs.Laws.{data-up-to, lengths-stored}
 use borrow.Author.Needs.{needs}

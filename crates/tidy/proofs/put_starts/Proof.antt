@@ -9,7 +9,8 @@ use lib.ListN.{length}
 use lib.Seq.{sets, length-sets}
 use Rattle.field.specs.Field.{Written, leBytes, fields, words}
 use Rattle.field.proofs.Laws.{put-done}
-use Rattle.writer.specs.Writer.{contentOf, dataOf, startFor, startsFrom}
+use Rattle.bundle.specs.Content.{contentOf}
+use Rattle.writer.specs.Writer.{dataOf, startFor, startsFrom}
 use Rattle.tidied.specs.Tidy.{firstContents}
 use Rattle.tidied.proofs.Laws.{data-none, data-grows, data-up-to, starts-stored}
 use borrow.Author.Needs.{needs}

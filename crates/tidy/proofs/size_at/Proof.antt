@@ -4,8 +4,8 @@ use denote.Ref.{now}
 use Rattle.bundle.specs.Bundle.{slotOf}
 use Rattle.bundle.specs.declared.Slot.{Slot}
 use Rattle.bundle.specs.declared.Slot.the-variants as S
-use Rattle.writer.specs.Writer.{sizeIn, contentAt}
-use Rattle.writer.proofs.Laws.{size-there}
+use Rattle.bundle.specs.Content.{sizeIn, contentAt}
+use Rattle.bundle.proofs.Laws.{size-there}
 use borrow.Author.Needs.{needs}
 use Rattle.tidy.proofs.size_at.Statement.{statement}
 use Rattle.tidy.proofs.size_at.Tie as tie

@@ -2,7 +2,8 @@
 use mathlib.Core.Path.{sym, ap, _∙_}
 use denote.Ref.{now}
 use Rattle.bundle.specs.declared.Slot.{Slot}
-use Rattle.writer.specs.Writer.{contentAt, startFor}
+use Rattle.bundle.specs.Content.{contentAt}
+use Rattle.writer.specs.Writer.{startFor}
 use borrow.Author.Needs.{needs}
 use Rattle.tidy.proofs.start_at.Statement.{statement}
 use Rattle.tidy.proofs.start_at.Tie as tie

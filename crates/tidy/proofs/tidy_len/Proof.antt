@@ -9,11 +9,11 @@ use lib.ListN.{length}
 use Rattle.base.proofs.Telling.{tells}
 use Rattle.bundle.specs.Bundle.{countOf, wellFormed, imagesChecked}
 use Rattle.bundle.specs.declared.Checked.the-variants as C
-use Rattle.bundle.proofs.Laws.{checked-good, checked-refused}
+use Rattle.bundle.proofs.Laws.{checked-good, checked-refused, formed}
 use Rattle.writer.specs.Writer.{dataOf, mostData}
-use Rattle.tidied.specs.Tidy.{keptCount, firstContents, tidyBytes, tidyData, tidiedTold}
+use Rattle.tidied.specs.Tidy.{firstContents, tidyBytes, tidyData, tidiedTold}
 use Rattle.tidied.specs.declared.Tidied.the-variants as T
-use Rattle.tidied.proofs.Laws.{kept-few, length-tidy, len-malformed, len-passes, len-made}
+use Rattle.tidied.proofs.Laws.{length-tidy, len-malformed, len-passes, len-made}
 use borrow.Author.Needs.{needs}
 use Rattle.tidy.proofs.tidy_len.Statement.{statement}
 use Rattle.tidy.proofs.tidy_len.Tie as tie
@@ -33,8 +33,8 @@ returns c =
     let e = sym (c .before .before .check-images .ensures .is) ∙ c .enum-told2 .given .1 in
     tells tidiedTold (sym (len-malformed B (checked-refused (wellFormed true B) 1 _ e)))
 
-form-count-requires : tie.Need-form-count-requires
-form-count-requires c κs = search needs
+slot-count-requires : tie.Need-slot-count-requires
+slot-count-requires c κs = search needs
 
 data-size-requires : tie.Need-data-size-requires
 data-size-requires c κs = search needs
@@ -42,17 +42,17 @@ data-size-requires c κs = search needs
 -- behind the check: the set is well-formed, and the sum is the tidy form's, or it passes the most
 pub record Measured (set : List ℕ) (n size : ℕ) : Type 0 where
   pub good : wellFormed true set ≡ true
-  pub count : n ≡ keptCount set (countOf set)
+  pub count : n ≡ countOf set
   pub sum : size ≡ min (mostData + 1) (tidyData set)
 
-measured : (c : tie.After-data-size) → Measured (now (c .before .before .before .before .before .before .args .set)) (c .before .form-count .result) (c .data-size .result)
+measured : (c : tie.After-data-size) → Measured (now (c .before .before .before .before .before .before .args .set)) (c .before .slot-count .result) (c .data-size .result)
 measured c =
     let B : List ℕ = now (c .before .before .before .before .before .before .args .set) in
     let e : imagesChecked B ≡ C.Good = cc in
     record {
       good = checked-good (wellFormed true B) 1 e;
-      count = c .before .form-count .ensures;
-      sum = c .data-size .ensures ∙ ap (λ (k : ℕ). min (mostData + 1) (length (dataOf (firstContents B k)))) (c .before .form-count .ensures);
+      count = c .before .slot-count .ensures;
+      sum = c .data-size .ensures ∙ ap (λ (k : ℕ). min (mostData + 1) (length (dataOf (firstContents B k)))) (c .before .slot-count .ensures);
     }
 
 returns-2 : tie.Need-returns-2
@@ -65,24 +65,24 @@ returns-2 c =
 mul-t6 : tie.Need-mul-t6
 mul-t6 c =
     let m = measured (c .before) in
-    omega (arith, m .count, kept-few (now (c .before .before .before .before .before .before .before .args .set)) (m .good))
+    omega (arith, m .count, formed true (now (c .before .before .before .before .before .before .before .args .set)) (m .good) .few)
 
 add-t7 : tie.Need-add-t7
 add-t7 c =
     let m = measured (c .before) in
-    omega (arith, m .count, kept-few (now (c .before .before .before .before .before .before .before .args .set)) (m .good))
+    omega (arith, m .count, formed true (now (c .before .before .before .before .before .before .before .args .set)) (m .good) .few)
 
 add-t8 : tie.Need-add-t8
 add-t8 c =
     let m = measured (c .before) in
-    omega (arith, m .count, kept-few (now (c .before .before .before .before .before .before .before .args .set)) (m .good))
+    omega (arith, m .count, formed true (now (c .before .before .before .before .before .before .before .args .set)) (m .good) .few)
 
 returns-3 : tie.Need-returns-3
 returns-3 c =
     let B : List ℕ = now (c .before .before .before .before .before .before .before .args .set) in
     let m = measured (c .before) in
     let l : tidyData B ≤ mostData = omega (arith, m .sum) in
-    let k : 8 + 8 * c .before .before .form-count .result + c .before .data-size .result ≡ length (tidyBytes B) =
+    let k : 8 + 8 * c .before .before .slot-count .result + c .before .data-size .result ≡ length (tidyBytes B) =
     omega (arith, m .count, m .sum, length-tidy B) in
     tells tidiedTold (ap T.Made k ∙ sym (len-made B (m .good) l))
 
@@ -94,7 +94,7 @@ tidy-len-spec =
     enum-told
     enum-told-2
     returns
-    form-count-requires
+    slot-count-requires
     data-size-requires
     returns-2
     mul-t6

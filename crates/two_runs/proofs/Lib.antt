@@ -1,0 +1,6 @@
+pub mod Range
+pub mod Verdict
+pub mod Step
+pub mod Theorem
+pub mod Raw
+pub mod Example
