@@ -1,6 +1,6 @@
-/* A device gets the same from an image set and from its tidy form: lists of steps of any session, made with either, each step lent all else alike, by value and
- * in place. Answers with their values, bytes taken, sessions and buffers must be the same, and of an image its length and bytes; where it starts in its set need
- * not be.
+/* A device gets the same from an image set and from its tidy form: lists of steps of any session, made with either, each step lent all else alike, by value
+ * and in place. Answers with their values, bytes taken, sessions and buffers must be the same, and of an image its length and bytes; where it starts in its set
+ * need not be.
  */
 #include <stdio.h>
 #include <stdlib.h>
@@ -145,10 +145,9 @@ static size_t odd(uint8_t *to)
     return rows[i].bytes;
 }
 
-/* Any packet, most often one that asks for a part of an image: IDs around the slot count, ranges around the image's end. Gives its length. */
-static size_t said(uint8_t *to, const image_set *set)
+/* One that asks for a part of an image: IDs around the slot count, ranges around the image's end. */
+static size_t asked(uint8_t *to, const image_set *set)
 {
-    static const uint64_t tables[] = {0, 1, 52, 64, 128, 170, 280, 281, 65537}, replies[] = {0, 3, 64, 65};
     const uint64_t ids[] = {set->n, set->n + 1, set->n - (set->n > 0), 0, 1, below(set->n + 1), number(), UINT64_C(1) << 32};
     uint64_t id = ANY(ids);
     for (int tries = 0; tries < 3 && (id >= set->n || set->slots[id].bytes == NULL); tries++) /* one that is there, where that is easily found */
@@ -156,19 +155,22 @@ static size_t said(uint8_t *to, const image_set *set)
     const uint64_t slot = set->n == 1 ? 0 : id, size = slot < set->n ? set->slots[slot].len : 3;
     const uint64_t offsets[] = {0, 0, below(size + 1), size, size + 1}, offset = ANY(offsets), rest = offset < size ? size - offset : 0;
     const uint64_t lens[] = {rest, rest, below(rest + 1), 0, rest + 1}, len = ANY(lens);
-    const size_t which = below(34);
-    if (which < 8)
+    if (one_in(2))
         return packet(to, WORGESLI_KIND_READ_DATA, 4, 3, id, offset, len);
-    if (which < 16)
-        return packet(to, WORGESLI_KIND_READ_DATA64, 8, 3, id, offset, len);
+    return packet(to, WORGESLI_KIND_READ_DATA64, 8, 3, id, one_in(16) ? UINT64_MAX - below(2) : offset, len);
+}
+
+/* Any packet; gives its length. */
+static size_t said(uint8_t *to, const image_set *set)
+{
+    static const uint64_t tables[] = {0, 1, 52, 64, 128, 170, 280, 281, 65537}, replies[] = {0, 3, 64, 65};
+    const size_t which = below(34);
     if (which < 17)
-        return packet(to, WORGESLI_KIND_READ_DATA64, 8, 3, id, UINT64_MAX - below(2), len);
-    if (which < 21)
-        return packet(to, WORGESLI_KIND_DONE_RESP, 4, 1, 0, 0, 0);
+        return asked(to, set);
     if (which < 22)
-        return packet(to, WORGESLI_KIND_DONE_RESP, 4, 1, 1 + below(2), 0, 0);
+        return packet(to, WORGESLI_KIND_DONE_RESP, 4, 1, which < 21 ? 0 : 1 + below(2), 0, 0);
     if (which < 24)
-        return packet(to, WORGESLI_KIND_END_OF_IMAGE, 4, 2, id, one_in(4), 0);
+        return packet(to, WORGESLI_KIND_END_OF_IMAGE, 4, 2, below(3), one_in(4), 0);
     if (which < 25)
         return packet(to, WORGESLI_KIND_COMMAND_READY, 4, 0, 0, 0, 0);
     if (which < 27)
@@ -397,7 +399,9 @@ static void one_image_and_an_absent_second_slot(void)
         EXPECT(form.len == due->len && memcmp(form.bytes, due->bytes, form.len) == 0);
         for (uint64_t what = 0; what < 6; what++) {
             uint8_t said[32];
-            const size_t width = what % 2 == 0 ? 4 : 8, n = what < 4 ? packet(said, width == 4 ? 3 : 0x12, width, 3, what / 2, 0, 5) : packet(said, 6, 4, 1, what - 4, 0, 0);
+            const bool wide = what % 2 == 1;
+            const size_t n = what >= 4 ? packet(said, WORGESLI_KIND_DONE_RESP, 4, 1, what - 4, 0, 0)
+                                       : packet(said, wide ? WORGESLI_KIND_READ_DATA64 : WORGESLI_KIND_READ_DATA, wide ? 8 : 4, 3, what / 2, 0, 5);
             const lent l = {said, none, n, sizeof none, 0, 0, WORGESLI_OUT_LEN};
             run r = {open, {0}, {0}, {0}};
             const worgesli_placed p = step(&r, &l, &sets[i]);
