@@ -1,10 +1,10 @@
 //! A device gets the same from an image set and from its tidy form: lists of steps of any session, made with either, each step lent all else alike. Answers with
 //! their values, bytes taken, sessions and buffers must be the same, and of an image its length and bytes; where it starts in its set need not be.
 use crate::bad_input::{numbers, step};
-use crate::tidy::{random, set, slots, ABSENT};
+use crate::tidy::{random, set, slots, Slot, ABSENT};
 use device::{Region, Rng, Width};
 use std::collections::BTreeMap;
-use worgesli::{raw, tidy, Answer, Backend, Mode, NameList, Session};
+use worgesli::{raw, tidy, Answer, Backend, Mode, NameList, Session, SLOTS};
 
 const IMAGE: u32 = 2;
 const REFUSED: u32 = 8;
@@ -113,7 +113,7 @@ impl Seen {
     }
 }
 
-/// Makes a list of steps with either set; what comes of the first one that tells them apart.
+/// Makes a list of steps with either set; what came of the first one that tells them apart.
 fn apart(rng: &mut Rng, set: &[u8], form: &[u8], seen: &mut Seen) -> Option<String> {
     let images = slots(set);
     let (mut ours, mut queue) = begun(rng, &images);
@@ -122,11 +122,7 @@ fn apart(rng: &mut Rng, set: &[u8], form: &[u8], seen: &mut Seen) -> Option<Stri
         if queue.is_empty() || rng.chance(100) {
             queue.extend(speech(rng, &ours.session, &images));
         }
-        let piece = match rng.below(16) {
-            0 => 0,
-            1..8 => queue.len(),
-            _ => rng.piece(queue.len()),
-        };
+        let piece = [0, queue.len(), rng.piece(queue.len())][(rng.below(17) as usize).div_ceil(8)];
         let (names, other) = (names(rng), other(rng, set));
         let short = |rng: &mut Rng, len: usize, chance| if rng.chance(chance) { rng.below(len as u64) as usize } else { len };
         let lent = Lent {
@@ -149,7 +145,7 @@ fn apart(rng: &mut Rng, set: &[u8], form: &[u8], seen: &mut Seen) -> Option<Stri
             seen.note(&was, &a, &b, &images);
         }
         queue.drain(..a.taken);
-        // most of what stays as it is is known by now
+        // these stay as they are
         if was.phase == 6 || (a.answer, a.first) == (REFUSED, 18) && rng.chance(500) {
             break;
         }
@@ -235,7 +231,7 @@ fn begun(rng: &mut Rng, images: &[Option<&[u8]>]) -> (Run, Vec<u8>) {
     (Run { session: s, table, reply: rest[..64].to_vec(), out: rest[64..].to_vec() }, queue)
 }
 
-/// A packet is there in part, and now and then in more parts than there are; gives what is still to come.
+/// A packet is there in part, by its count now and then with more bytes than it has; gives what is still to come.
 fn held(rng: &mut Rng, s: &mut raw::Session, images: &[Option<&[u8]>]) -> Vec<u8> {
     let packet = packet(rng, images);
     s.count = rng.below(packet.len() as u64) as usize;
@@ -267,8 +263,8 @@ fn speech(rng: &mut Rng, s: &raw::Session, images: &[Option<&[u8]>]) -> Vec<u8> 
     }
 }
 
-/// A packet of any kind, most often one that asks for a part of an image: IDs around the slot count, ranges around the image's end.
-fn packet(rng: &mut Rng, images: &[Option<&[u8]>]) -> Vec<u8> {
+/// A part of an image, by ID, offset and length: IDs around the slot count, ranges around the image's end.
+fn part(rng: &mut Rng, images: &[Option<&[u8]>]) -> [u64; 3] {
     let n = images.len() as u64;
     let there: Vec<u64> = (0..n).filter(|i| images[*i as usize].is_some()).collect();
     let edges = [n, n + 1, n.saturating_sub(1), 0, 1, rng.below(n + 1), rng.number(), 1 << 32];
@@ -281,6 +277,12 @@ fn packet(rng: &mut Rng, images: &[Option<&[u8]>]) -> Vec<u8> {
     let offset = [0, 0, rng.below(size + 1), size, size + 1][rng.below(5) as usize];
     let rest = size.saturating_sub(offset);
     let len = [rest, rest, rng.below(rest + 1), 0, rest + 1][rng.below(5) as usize];
+    [id, offset, len]
+}
+
+/// A packet of any kind, most often one that asks for a part of an image.
+fn packet(rng: &mut Rng, images: &[Option<&[u8]>]) -> Vec<u8> {
+    let [id, offset, len] = part(rng, images);
     let narrow = |n: u64| n as u32;
     match rng.below(36) {
         0..10 => device::read_data(narrow(id), narrow(offset), narrow(len)),
@@ -298,25 +300,27 @@ fn packet(rng: &mut Rng, images: &[Option<&[u8]>]) -> Vec<u8> {
         }
         32 => device::reset_resp(),
         _ => {
-            let odd: [(u32, u32, usize); 12] = [
-                (1, 7, 0),
-                (3, 4097, 12),
-                (0x15, 8, 0),
-                (0, 60, 52),
-                (0x6d78_3f3c, 8, 0),
-                (0x0c, 12, 4),
-                (7, 8, 0),
-                (0x12, 31, 23),
-                (5, 8, 0),
-                (0x11, 24, 16),
-                (3, 21, 13),
-                (8, 300, 292),
-            ];
-            let (command, len, body) = odd[rng.below(12) as usize];
+            let (command, len, body) = ODD[rng.below(ODD.len() as u64) as usize];
             device::framed(command, len, &vec![0; body])
         }
     }
 }
+
+/// Packets that a session is refused for: command, length field and bytes of the body.
+const ODD: [(u32, u32, usize); 12] = [
+    (1, 7, 0),
+    (3, 4097, 12),
+    (0x15, 8, 0),
+    (0, 60, 52),
+    (0x6d78_3f3c, 8, 0),
+    (0x0c, 12, 4),
+    (7, 8, 0),
+    (0x12, 31, 23),
+    (5, 8, 0),
+    (0x11, 24, 16),
+    (3, 21, 13),
+    (8, 300, 292),
+];
 
 #[test]
 fn any_session() {
@@ -331,65 +335,62 @@ fn any_session() {
     for what in (0..7).map(|answer| (answer, 0)).chain((1..=4).map(|how| (7, how))).chain(refusals) {
         assert!(seen.answers.get(&what).is_some_and(|n| *n > 30), "{what:?}: {:?}", seen.answers);
     }
-    assert!(seen.others.values().all(|n| *n > 30), "{:?}", seen.others);
+    assert!(seen.others.len() == 6 && seen.others.values().all(|n| *n > 30), "{:?}", seen.others);
 }
 
-/// Wrong forms are told apart from their sets: where a device could see it.
+// ---- forms that are wrong
+
+type Images = Vec<Option<Vec<u8>>>;
+
+/// An image that is not empty.
+fn some<'a>(rng: &mut Rng, images: &'a mut Images) -> Option<&'a mut Vec<u8>> {
+    let mut some: Vec<_> = images.iter_mut().flatten().filter(|image| !image.is_empty()).collect();
+    let i = rng.below(some.len().max(1) as u64) as usize;
+    (i < some.len()).then(|| some.swap_remove(i))
+}
+
+/// What a wrong form does to the images before they are written, and the mark that it gives to absent slots.
+type Wrong = (&'static str, fn(&mut Rng, &mut Images), Slot);
+
+const WRONG: [Wrong; 8] = [
+    (
+        "absent slots at the end are dropped",
+        |_, images| images.truncate(images.iter().rposition(Option::is_some).map_or(0, |i| i + 1)),
+        ABSENT,
+    ),
+    ("one absent slot at the end is dropped", |_, images| drop(images.pop_if(|last| last.is_none())), ABSENT),
+    ("a slot more", |_, images| images.resize((images.len() + 1).min(SLOTS), None), ABSENT),
+    ("a byte is another", |rng, images| some(rng, images).into_iter().for_each(|image| image[0] ^= 1), ABSENT),
+    ("a byte fewer", |rng, images| some(rng, images).into_iter().for_each(|image| image.truncate(image.len() - 1)), ABSENT),
+    (
+        "empty images are absent",
+        |_, images| images.iter_mut().for_each(|image| *image = image.take().filter(|image| !image.is_empty())),
+        ABSENT,
+    ),
+    ("absent slots have another start", |_, _| {}, (0, 0)),
+    ("absent slots have a length", |_, _| {}, (u32::MAX, 1)),
+];
+
+/// These images one behind the other, and absent ones with this mark.
+fn written(images: &[Option<Vec<u8>>], mark: Slot) -> Vec<u8> {
+    let (mut data, mut slots) = (Vec::new(), Vec::new());
+    for image in images {
+        slots.push(image.as_ref().map_or(mark, |image| (data.len() as u32, image.len() as u32)));
+        data.extend(image.iter().flatten());
+    }
+    set(&slots, &data)
+}
+
+/// They are told apart from their sets, where a device can see it.
 #[test]
 fn wrong_forms() {
-    type Wrong = fn(&mut Rng, Vec<Option<Vec<u8>>>) -> Vec<u8>;
-    // an image that is not empty
-    fn some<'a>(rng: &mut Rng, images: &'a mut [Option<Vec<u8>>]) -> Option<&'a mut Vec<u8>> {
-        let mut some: Vec<_> = images.iter_mut().flatten().filter(|image| !image.is_empty()).collect();
-        let i = rng.below(some.len().max(1) as u64) as usize;
-        (i < some.len()).then(|| some.swap_remove(i))
-    }
-    // these images one behind the other, and absent ones with this mark
-    fn written(images: &[Option<Vec<u8>>], mark: (u32, u32)) -> Vec<u8> {
-        let (mut data, mut slots) = (Vec::new(), Vec::new());
-        for image in images {
-            slots.push(image.as_ref().map_or(mark, |image| (data.len() as u32, image.len() as u32)));
-            data.extend(image.iter().flatten());
-        }
-        set(&slots, &data)
-    }
-    let wrongs: [(&str, Wrong); 8] = [
-        ("absent slots at the end are dropped", |_, mut images| {
-            images.truncate(images.iter().rposition(Option::is_some).map_or(0, |i| i + 1));
-            written(&images, ABSENT)
-        }),
-        ("one absent slot at the end is dropped", |_, mut images| {
-            images.pop_if(|last| last.is_none());
-            written(&images, ABSENT)
-        }),
-        ("a slot more", |_, mut images| {
-            images.push(None);
-            images.truncate(64);
-            written(&images, ABSENT)
-        }),
-        ("a byte is another", |rng, mut images| {
-            if let Some(image) = some(rng, &mut images) {
-                let at = rng.below(image.len() as u64) as usize;
-                image[at] ^= 1;
-            }
-            written(&images, ABSENT)
-        }),
-        ("a byte fewer", |rng, mut images| {
-            some(rng, &mut images).and_then(Vec::pop);
-            written(&images, ABSENT)
-        }),
-        ("absent slots have another start", |_, images| written(&images, (0, 0))),
-        ("absent slots have a length", |_, images| written(&images, (u32::MAX, 1))),
-        ("empty images are absent", |_, mut images| {
-            images.iter_mut().for_each(|image| *image = image.take().filter(|image| !image.is_empty()));
-            written(&images, ABSENT)
-        }),
-    ];
-    for (what, wrong) in wrongs {
+    for (what, wrong, mark) in WRONG {
         let (mut rng, mut seen, mut made, mut told) = (Rng::new(72), Seen::default(), 0, 0);
         for _ in 0..3000 {
             let set = any_set(&mut rng);
-            let form = wrong(&mut rng, slots(&set).into_iter().map(|image| image.map(Vec::from)).collect());
+            let mut images = slots(&set).into_iter().map(|image| image.map(Vec::from)).collect();
+            wrong(&mut rng, &mut images);
+            let form = written(&images, mark);
             made += u32::from(form != tidy(&set).unwrap());
             told += u32::from(apart(&mut rng, &set, &form, &mut seen).is_some());
         }
