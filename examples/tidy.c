@@ -1,5 +1,5 @@
-/* Writes the tidy form of an image set to a new file: sets of as many slots with the same images have the same one, and a device is served the same from
- * either file.
+/* Writes the tidy form of an image set to a new file: sets with the same images in as many slots have the same one, and a device is served from it as from the
+ * set.
  *
  *     tidy SET TIDY
  *

@@ -315,17 +315,17 @@ worgesli_sheet worgesli_region_sheet(const uint8_t *table, size_t table_len, uin
  * Archives of number 2 from before this function do not have it: who uses dlopen looks. */
 worgesli_forecast worgesli_forecast_table(const uint8_t *table, size_t table_len, uint64_t width, const uint8_t *names, size_t names_len);
 
-/* The tidy form of an image set, so that equal sets have equal files. Two sets are equal if they have as many slots, and each slot has the same bytes in both or
- * is absent in both; an empty image is not absent. Just then are their tidy forms the same bytes, where neither is refused. The form is an image set itself, of
- * as many slots: the data in slot order, each present image's bytes once for its slot, also where slots share them, without gaps; an empty image starts where
- * the bytes before it end; an absent slot has its mark, behind the last present one too. Of n slots without an image it is n, 0, n marks and n zeros. Tidied
- * again it stays as it is. A device gets the same answers and image bytes from a set and from its tidy form, in any session, if each step is lent all else
- * alike: only where an image starts in its set (`first` of WORGESLI_ANSWER_IMAGE) is another number.
+/* The tidy form of an image set, so that equal sets have equal files. Two sets are equal if their slot counts agree, and each slot has the same bytes in both or
+ * is absent in both; an empty image is not absent. Just then are their tidy forms the same bytes, where neither is refused. The form is an image set itself,
+ * with as many slots as the set: the data in slot order, each present image's bytes once for its slot, also where slots share them, without gaps; an empty image
+ * starts where the bytes before it end; an absent slot has its mark, behind the last present one too. Of n slots without an image it is n, 0, n marks, n zeros.
+ * Tidied again it stays as it is. A device gets the same answers and image bytes from a set and from its tidy form, in any session, if each step is lent all else
+ * alike: only where an image starts in its set (`first` of WORGESLI_ANSWER_IMAGE) may be another number.
  * It is written to `to` from its first byte on, and what is behind it there is as it was. 28 where the set is malformed, which is looked at first; else 29 where
  * the form is longer than `to`, or has more than 2^32 - 2 data bytes (an empty image must not start at the mark of an absent one): then all of `to` is as it
  * was. Since shared bytes are written for each slot, it may be far longer than the set: worgesli_tidy_len tells.
- * Older archives of number 2 do not have this function and the next, or drop absent slots behind the last present one (so that the length of the tidy form of
- * one absent slot, 16 bytes, is told as 8): who uses dlopen looks. */
+ * Archives of number 2 from before this function and the next do not have them, and the first that have them drop absent slots behind the last present one (of
+ * one absent slot worgesli_tidy_len then tells 8, and not 16): who uses dlopen looks. */
 worgesli_tidied worgesli_tidy(const uint8_t *set, size_t set_len, uint8_t *to, size_t to_len);
 
 /* How long the tidy form is, for who allocates. 28 where the set is malformed; else 29, only for more than 2^32 - 2 data bytes. */

@@ -1,13 +1,13 @@
-//! Tidy image sets: one form for all of as many slots that have the same images.
+//! Tidy image sets: one form for all that have the same images in as many slots.
 use crate::{raw, ImageSet, Refusal};
 
 /// The tidy form of an image set's bytes. Equal sets, and no others, have the same.
 ///
-/// Two sets are equal if they have as many slots, and each slot has the same bytes in both or is absent in both. An empty image is not absent. The form is an
-/// image set itself, of as many slots: the data in slot order, each present image's bytes once for its slot, also where slots share them, without gaps; an empty
-/// image starts where the bytes before it end; absent slots are marked, those behind the last present one too. Tidied again it stays as it is. A device gets the
-/// same answers and image bytes from a set and from its tidy form, in any session, if each step is lent all else alike: only where an image starts in its set is
-/// another number.
+/// Two sets are equal if their slot counts agree, and each slot has the same bytes in both or is absent in both. An empty image is not absent. The form is an
+/// image set itself, with as many slots as the set: the data in slot order, each present image's bytes once for its slot, also where slots share them, without
+/// gaps; an empty image starts where the bytes before it end; absent slots are marked, those behind the last present one too. Tidied again it stays as it is. A
+/// device gets the same answers and image bytes from a set and from its tidy form, in any session, if each step is lent all else alike: only where an image starts
+/// in its set may be another number.
 ///
 /// Refused: 28 where the set is malformed; else 29 where there are more than 2^32 - 2 data bytes. Since shared bytes are written for each slot, the form may be
 /// far longer than the set. Where there is no memory for it, the process ends, as with each `Vec`: who wants to bear that asks [`tidy_len`], and lends a buffer
