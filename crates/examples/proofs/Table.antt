@@ -22,7 +22,7 @@ use Rattle.session.specs.Step.{stepOf}
 use Rattle.examples.specs.Rows.{rows, modeOne, oldBoards, trailing, all}
 
 pub table : T (all (rows ++ (modeOne ++ (oldBoards ++ trailing))))
-unfolding rows modeOne oldBoards trailing le leBytes modeOf kinds unimplemented classOf kindOf decodeOf fields bytesOf slotsGood wellFormed slotOf dataOf startsFrom bundleBytes firstContents tidyLenOf tidyOf rangeOf rows3-7
-    leads afterFirst goesOn before stemOf low namesFrom same member selected verdictOf responseOf has openCheck
-    afterOpenCheck nextOf chunkOf betweenOf nextChunk askOf handOf regionOf limitOf stepOf
+unfolding rows modeOne oldBoards trailing le leBytes modeOf kinds unimplemented classOf kindOf decodeOf fields bytesOf slotsGood wellFormed slotOf
+    dataOf startsFrom bundleBytes firstContents tidyLenOf tidyOf rangeOf rows3-7 leads afterFirst goesOn before stemOf low namesFrom same member
+    selected verdictOf responseOf has openCheck afterOpenCheck nextOf chunkOf betweenOf nextChunk askOf handOf regionOf limitOf stepOf
 table = tt
