@@ -306,7 +306,7 @@ trailing =
     ∷ example (serves tidy 1) (refused 12)
     ∷ example (done oneOfTwo) ok
     ∷ example (done tidy) ok
-    -- one slot alone serves every ID, and a DoneResp finishes
+    -- one slot with these bytes, which it was tidied to before, serves every ID, and a DoneResp finishes
     ∷ example (serves ten 1) (given 16 10)
     ∷ example (done ten) (finish 1)
     ∷ []

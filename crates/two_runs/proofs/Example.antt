@@ -1,17 +1,13 @@
--- The theorems are about something. The customer's set, one image and an absent second slot, in a run of three steps, computed: its image is served under ID 0, a
--- DoneResp of status 0 does not finish, and ID 1 is refused; and so from its tidy form. From the one slot that it was tidied to before, the run is another. And two sets
--- of one shape that differ in a byte which is not read. Assumes nothing.
+-- The theorem is about something. The customer's set, one image and an absent second slot, in a run of three steps, computed: its image is served under ID 0, a
+-- DoneResp of status 0 does not finish, and ID 1 is refused; and so from its tidy form. From the one slot that it was tidied to before, the run is another. Assumes
+-- nothing.
 use mathlib.Core.Path.{_≡_, refl, sym, ap, _∙_}
-use mathlib.Core.Bool.{true}
 use mathlib.Core.List.{List, [], _∷_, _++_, map}
-use mathlib.Core.Option.{some}
-use Prim.Native.Nat.{ℕ, zero, suc}
+use Prim.Native.Nat.{ℕ}
 use native.Mathlib.Omega.{arith}
 use lib.ListN.{take, replicate}
 use Rattle.field.specs.Field.{le, leBytes, fields, words}
-use Rattle.bundle.specs.Bundle.{countOf, slotsGood, wellFormed, slotOf}
-use Rattle.bundle.specs.Content.{contentOf}
-use Rattle.bundle.proofs.Laws.{content-past}
+use Rattle.bundle.specs.Bundle.{slotsGood, wellFormed, slotOf}
 use Rattle.command.specs.Command.{kinds, classOf}
 use Rattle.command.specs.declared.SaharaMode.the-variants as M
 use Rattle.packet.specs.Packet.{kindOf, decodeOf}
@@ -24,7 +20,6 @@ use Rattle.verdict.specs.declared.ExecCommand.the-variants as X
 use Rattle.verdict.specs.declared.QdlBackend.the-variants as U
 use Rattle.session.specs.declared.Answer.{Answer}
 use Rattle.session.specs.declared.Answer.the-variants as A
-use Rattle.session.specs.Outcome.{openedWith}
 use Rattle.session.specs.PacketPhase.{wholeOf, sizedOf, packetOf}
 use Rattle.session.specs.Limits.{limitOf}
 use Rattle.session.specs.Step.{stepOf}
@@ -33,15 +28,14 @@ use Rattle.fetch.specs.Device.{definitions, own, another, Lent, start}
 use Rattle.fetch_raw.specs.Calls.{calling}
 use Rattle.fetch_raw.proofs.Example.{byTurns}
 use Rattle.two_runs.specs.Claim.{Seen, seenIn, withSet, RunsAlike}
-use Rattle.two_runs.specs.Alike.{shapeIn, coveredOf, madeWhole, Agree}
-use Rattle.two_runs.proofs.Theorem.{runs-alike, serves-alike}
+use Rattle.two_runs.proofs.Theorem.{serves-alike}
 use Rattle.two_runs.proofs.Raw.{serves-alike-raw}
 
-abbrev mark : ℕ
+abbrev pub mark : ℕ
 mark = 0xFFFFFFFF
 
 -- "ABCD" behind two bytes of a gap, and an absent slot; its tidy form; and what it was tidied to before
-abbrev set : List ℕ
+abbrev pub set : List ℕ
 set = words (2 ∷ 6 ∷ 2 ∷ mark ∷ 4 ∷ 0 ∷ []) ++ 0 ∷ 0 ∷ 65 ∷ 66 ∷ 67 ∷ 68 ∷ []
 
 abbrev form : List ℕ
@@ -61,7 +55,7 @@ is-form =
 
 -- ---- a run of three steps
 
-abbrev setting : Setting
+abbrev pub setting : Setting
 setting =
     record {
       opening = record { mode = M.WaitingForImage; command = X.None; backend = U.Serial };
@@ -74,11 +68,11 @@ setting =
       mem = λ a. 0;
     }
 
-abbrev step : List ℕ → Lent
+abbrev pub step : List ℕ → Lent
 step p = record { delivery = another p; set = own; names = own; table = own; reply = own; out = own }
 
 -- a ReadData, and a DoneResp of status 0
-abbrev read : ℕ → ℕ → ℕ → List ℕ
+abbrev pub read : ℕ → ℕ → ℕ → List ℕ
 read id offset len = words (3 ∷ 20 ∷ id ∷ offset ∷ len ∷ [])
 
 abbrev steps : List Lent
@@ -87,7 +81,7 @@ steps = step (read 0 0 4) ∷ step (words (6 ∷ 12 ∷ 0 ∷ [])) ∷ step (rea
 abbrev answers : {S : Type 0} → List (Seen S) → List Answer
 answers = map (λ x. x .given .answer)
 
-abbrev reported : {S : Type 0} → List (Seen S) → List (List Report)
+abbrev pub reported : {S : Type 0} → List (Seen S) → List (List Report)
 reported = map (λ x. x .reports)
 
 served : answers (seenIn definitions setting (start definitions setting) steps) ≡ A.Image 0 4 ∷ A.Go ∷ A.Refused 12 ∷ []
@@ -126,61 +120,17 @@ dropped-differs x =
     let z : _≡_ {A = ℕ} 0 1 = cc in
     omega arith
 
--- ---- two sets that differ in a byte which is not read
+-- and its image is served under another ID than its own
+abbrev another-id : List Lent
+another-id = step (read 1 0 4) ∷ []
 
--- "ABCE"
-abbrev other : List ℕ
-other = words (2 ∷ 6 ∷ 2 ∷ mark ∷ 4 ∷ 0 ∷ []) ++ 0 ∷ 0 ∷ 65 ∷ 66 ∷ 67 ∷ 69 ∷ []
-
-formed : (wellFormed true set ≡ true) × (wellFormed true other ≡ true)
-unfolding wellFormed slotsGood le leBytes fields
-formed = (refl, refl)
-
-counts : (countOf set ≡ 2) × (countOf other ≡ 2)
-unfolding le leBytes fields
-counts = (refl, refl)
-
-shapes : (i : ℕ) → shapeIn (contentOf set i) ≡ shapeIn (contentOf other i)
-unfolding slotOf le leBytes fields
-shapes zero = refl
-shapes (suc zero) = refl
-shapes (suc (suc i)) =
-    ap shapeIn (content-past set (suc (suc i)) (omega (arith, counts)) ∙ sym (content-past other (suc (suc i)) (omega (arith, counts))))
-
--- its first three bytes are read
-first-three : madeWhole (openedWith (setting .opening)) 0 (read 0 0 3) ≡ some (read 0 0 3)
-unfolding madeWhole le leBytes fields
-first-three = refl
-
-covered-alike : coveredOf set (read 0 0 3) ≡ coveredOf other (read 0 0 3)
-unfolding coveredOf decodeOf classOf kinds kindOf slotOf le leBytes fields
-covered-alike = refl
-
-agree : Agree setting other (start definitions setting) (step (read 0 0 3))
-agree q p j =
-    let h : 0 ≡ j .held = let x = j .phase in cc in
-    let w : madeWhole (openedWith (setting .opening)) 0 (read 0 0 3) ≡ some p =
-    ap (λ (k : ℕ). madeWhole (openedWith (setting .opening)) k (read 0 0 3)) h ∙ j .whole in
-    let e : read 0 0 3 ≡ p = let x : some (read 0 0 3) ≡ some p = sym first-three ∙ w in cc in
-    rw (← e) covered-alike
-
--- so the runs are alike; read whole, they are not
-pub unread-alike : RunsAlike definitions setting other (start definitions setting) (step (read 0 0 3) ∷ [])
-unread-alike =
-    runs-alike setting other (formed .0) (formed .1) (record { counts = counts .0 ∙ sym (counts .1); slots = shapes }) (start definitions setting)
-    (step (read 0 0 3) ∷ []) (agree, tt)
-
-read-whole : reported (seenIn definitions setting (start definitions setting) (step (read 0 0 4) ∷ [])) ≡ (image (65 ∷ 66 ∷ 67 ∷ 68 ∷ []) ∷ []) ∷ []
+refused-alone : answers (seenIn definitions setting (start definitions setting) another-id) ≡ A.Refused 12 ∷ []
 unfolding stepOf limitOf packetOf sizedOf wholeOf verdictOf decodeOf classOf kinds kindOf wellFormed slotsGood slotOf le leBytes fields
-read-whole = refl
+refused-alone = refl
 
-other-whole : reported (seenIn definitions (withSet setting other) (start definitions setting) (step (read 0 0 4) ∷ [])) ≡ (image (65 ∷ 66 ∷ 67 ∷ 69 ∷ []) ∷ []) ∷ []
+form-refused : answers (seenIn definitions (withSet setting form) (start definitions setting) another-id) ≡ A.Refused 12 ∷ []
+form-refused = ap answers (sym (serves-alike setting form is-form (start definitions setting) another-id .steps)) ∙ refused-alone
+
+dropped-serves : answers (seenIn definitions (withSet setting dropped) (start definitions setting) another-id) ≡ A.Image 0 4 ∷ []
 unfolding stepOf limitOf packetOf sizedOf wholeOf verdictOf decodeOf classOf kinds kindOf wellFormed slotsGood slotOf le leBytes fields
-other-whole = refl
-
-pub read-differs : RunsAlike definitions setting other (start definitions setting) (step (read 0 0 4) ∷ []) → ⊥
-read-differs x =
-    let e : _≡_ {A = List (List Report)} ((image (65 ∷ 66 ∷ 67 ∷ 68 ∷ []) ∷ []) ∷ []) ((image (65 ∷ 66 ∷ 67 ∷ 69 ∷ []) ∷ []) ∷ []) =
-    sym read-whole ∙ ap reported (x .steps) ∙ other-whole in
-    let z : _≡_ {A = ℕ} 68 69 = cc in
-    omega arith
+dropped-serves = refl

@@ -1,6 +1,8 @@
+pub mod Aside
 pub mod Range
 pub mod Verdict
 pub mod Step
 pub mod Theorem
 pub mod Raw
 pub mod Example
+pub mod Unread

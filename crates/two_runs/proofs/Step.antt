@@ -1,13 +1,17 @@
--- One step with two image sets of one shape that agree on what it covers is seen alike, whatever the session and all else that it is lent: a step looks at its set in
--- the check (1) and in the verdict on a packet, and no other answer is an image. By the branches of a step. Assumes nothing.
+-- A step that judges a packet does what the verdict on it asks for. And one step with two image sets of one shape that agree on what it covers is seen alike, whatever
+-- the session and all else that it is lent: a step looks at its set in the check (1) and in the verdict on a packet, and no other answer is an image. By the branches of
+-- a step. Assumes nothing.
 use mathlib.Core.Path.{_≡_, refl, sym, ap, _∙_}
 use mathlib.Core.Bool.{Bool, true, false, not}
 use mathlib.Core.List.{List, [], _∷_}
+use mathlib.Core.Option.{none, some}
 use Prim.Native.Nat.{ℕ, _+_, _-_, _^_, min}
+use native.Mathlib.Omega.{arith}
 use borrow.Author.Tests.{ltb-false}
 use lib.Dec.{eqb, ltb, leb}
 use lib.ListN.{length, take}
 use Rattle.base.specs.Choice.{pick}
+use Rattle.base.proofs.Ranges.{by-else}
 use Rattle.base.proofs.Tests.{split, differ}
 use Rattle.field.specs.Field.{fieldSize}
 use Rattle.bundle.specs.Bundle.{wellFormed}
@@ -34,11 +38,38 @@ use Rattle.session.specs.RegionPhase.{nameIn, nextChunk, begunOf, askOf, handOf
 use Rattle.session.specs.Limits.{limitOf}
 use Rattle.session.specs.Step.{onPhase, stepOf}
 use Rattle.waiting.specs.Waiting.{InOrder}
+use Rattle.waiting.proofs.Waiting.{step-is-phase}
 use Rattle.fetch.specs.Plain.{Report, image}
 use Rattle.fetch.specs.Device.{givenOf, reportsFor}
 use Rattle.two_runs.specs.Claim.{Seen, seenOf}
 use Rattle.two_runs.specs.Alike.{SameShape, madeWhole, Judges, AgreeIn}
 use Rattle.two_runs.proofs.Verdict.{verdictAside, verdictBytes, VerdictsAlike, verdict-alike}
+
+-- ---- a step that judges a packet (`Judges` of specs/Alike) does what the verdict on it asks for
+
+none≢some : {p : List ℕ} → none ≡ some p → ⊥
+none≢some e = let z : _≡_ {A = ℕ} 0 1 = cc in omega arith
+
+module _ (s : Session) (d set names t y o p : List ℕ) (j : Judges s d set names t y o p) where
+  abbrev taken : ℕ
+  taken = min (lengthField (keep (s .window) (j .held) d) - j .held) (length d)
+
+  abbrev window : List ℕ
+  window = keep (s .window) (j .held) (take taken d)
+
+  pub judged : stepOf s d set names t y o ≡ acted s taken window t y o (verdictOf (s .opening) set (length t) (length y) p)
+  unfolding madeWhole packetOf sizedOf wholeOf
+  judged =
+      let h : ℕ = j .held in
+      let a = by-else (ltb (h + length d) 8) none _ none≢some (j .whole) in
+      let b = by-else (badLength (lengthField (keep (s .window) h d))) none _ none≢some (a .1) in
+      let c = by-else (ltb (h + taken) (lengthField (keep (s .window) h d))) none _ none≢some (b .1) in
+      let e : take (lengthField window) window ≡ p = let x = c .1 in cc in
+      step-is-phase s set names t y o (j .order) d
+      ∙ ap (λ (q : Phase). onPhase s q d set names t y o) (j .phase)
+      ∙ rw (a .0, b .0, c .0, e) refl
+
+-- ---- two sets
 
 -- what holds of both branches of two decisions by one test
 split-two : {A : Type 0} {x y x′ y′ : A} (P : A → A → Type 0) (b : Bool) → (b ≡ true → P x x′) → (b ≡ false → P y y′) → P (pick b x y) (pick b x′ y′)
@@ -130,7 +161,7 @@ module _ (s : Session) (d t y o : List ℕ) where
           (λ m. split Unread (eqb (x .done) 0) (λ i. begun-unread (afterOpenCheck (nameIn (s .width) t x))) (λ i. next-unread))
           (λ m. split Unread (eqb (length d) 0) (λ i. refl) (λ i. refl)))
 
--- ---- two sets
+-- ---- all phases
 
 module _ (a b : List ℕ) (wa : wellFormed true a ≡ true) (wb : wellFormed true b ≡ true) (same : SameShape a b)
     (s : Session) (d names t y o : List ℕ) (agree : AgreeIn a b s d names t y o) where

@@ -18,7 +18,7 @@ use Rattle.fetch.specs.Plain.{Setting}
 use Rattle.fetch.specs.Device.{Host, definitions, Thing, own, other, Lent, lent, delivered, kept, left, queued, World, made, next}
 use Rattle.tidied.specs.Claim.{TidyForm}
 use Rattle.tidied.specs.Tidy.{tidyBytes}
-use Rattle.tidied.proofs.Theorem.{Given as Tidied, given, form-formed, form-count, form-same}
+use Rattle.tidied.proofs.Theorem.{Given as Formed, given, form-formed, form-count, form-same}
 use Rattle.two_runs.specs.Claim.{startAside, Seen, seenOf, seen, withSet, RunsAlike, ServesAlike}
 use Rattle.two_runs.specs.Alike.{shapeIn, SameShape, ImageRead, readIn, coveredIn, covered, coveredOf, Agree}
 use Rattle.two_runs.proofs.Step.{step-alike}
@@ -135,7 +135,7 @@ module _ (a b : List ℕ) (counts : countOf a ≡ countOf b) (contents : (i : �
 pub tidy-alike : (set form : List ℕ) → TidyForm set form → (s : Session) (d names t y o : List ℕ)
     → seenOf d set (definitions .step s d set names t y o) ≡ seenOf d form (definitions .step s d form names t y o)
 tidy-alike set form f s d names t y o =
-    let g : Tidied set form = given set form f in
+    let g : Formed set form = given set form f in
     let w = form-formed set (g .good) (g .little) in
     let n = sym (form-count set (g .good) (g .little)) in
     let x : (i : ℕ) → contentOf set i ≡ contentOf (tidyBytes set) i = λ i. sym (form-same set (g .good) (g .little) i) in

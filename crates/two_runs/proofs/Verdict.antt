@@ -1,5 +1,5 @@
 -- The verdict on a packet with two image sets of one shape that agree on what the packet covers: it is the same, but for where an image starts, and the image's bytes
--- are. The set enters a step here alone. Assumes nothing.
+-- are. Behind the check (1), the set enters a step here alone. Assumes nothing.
 use mathlib.Core.Path.{_≡_, refl, sym, ap, _∙_}
 use mathlib.Core.List.{List, []}
 use mathlib.Core.Option.{none, some}

@@ -1,6 +1,6 @@
--- When two image sets are alike to a run: they agree in slot count, presence and lengths, and on what its reads cover. That two runs are then alike is a law
--- (`runs-alike` of proofs/Theorem); a set and its tidy form are a case of it, since they agree on every byte. What a read covers is said of the decoded packet: image
--- ID, offset and length, as document 01, "Images", has them.
+-- When two image sets are alike to a run: they agree in slot count, presence and lengths, and on what its accepted reads cover. That two runs are then alike is a law
+-- (`runs-alike` of proofs/Theorem); a set and its tidy form agree on every byte. What a read covers is said of the decoded packet: image ID, offset and length, as
+-- document 01, "Images", has them. (The words are those of document 02, request 12, of which nothing is claimed here.)
 use Prim.Native.Nat.{ℕ, _+_, _-_, min}
 use mathlib.Core.Path.{_≡_}
 use mathlib.Core.List.{List, []}
@@ -92,14 +92,14 @@ madeWhole s h d =
     let w = keep (s .window) h (take n d) in
     pick (ltb (h + length d) 8) none (pick (badLength size) none (pick (ltb (h + n) size) none (some (take (lengthField w) w))))
 
--- a step that no refusal keeps from its phase comes to judge the packet p
+-- a step that no refusal keeps from its phase comes to judge the packet p: it does what the verdict on p asks for (`judged` of proofs/Step)
 pub record Judges (s : Session) (d set names t y o p : List ℕ) : Type 0 where
   pub order : InOrder s set names t y o
   pub held : ℕ
   pub phase : s .phase ≡ P.Packet held
   pub whole : madeWhole s held d ≡ some p
 
--- two sets agree on what a step covers, which is lent them and this
+-- two sets agree on what a step covers, which is lent the one or the other, and else this
 abbrev pub AgreeIn : List ℕ → List ℕ → Session → List ℕ → List ℕ → List ℕ → List ℕ → List ℕ → Type 0
 AgreeIn a b s d names t y o = (p : List ℕ) → Judges s d a names t y o p → coveredOf a p ≡ coveredOf b p
 

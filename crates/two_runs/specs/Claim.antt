@@ -15,7 +15,7 @@ use Rattle.tidied.specs.Claim.{TidyForm}
 
 -- ---- what is seen of a step
 
--- an answer, "where an image starts in its set aside": its length is told
+-- an answer, "where an image starts in its set aside", and nothing else of it (`only-start` of proofs/Aside)
 abbrev pub startAside : Answer → Answer
 startAside A.Go = A.Go
 startAside (A.Send k) = A.Send k
