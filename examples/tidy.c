@@ -1,4 +1,4 @@
-/* Writes the tidy form of an image set to a new file: sets with the same images in as many slots have the same one, and a device is served from it as from the
+/* Writes the tidy form of an image set to a new file: sets of as many slots with the same image in each have the same one, and a device is served from it as from the
  * set.
  *
  *     tidy SET TIDY

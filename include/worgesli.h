@@ -36,7 +36,7 @@
 extern "C" {
 #endif
 
-/* The number of this interface: another where a struct or a function is another. A file that includes this header links only with an archive of the same
+/* The number of this interface: another where a struct, or what a function takes or gives, is of another shape. A file that includes this header links only with an archive of the same
  * number. Who finds the functions at run time (dlopen) defines WORGESLI_AT_RUN_TIME before, and compares worgesli_abi() with it. */
 #define WORGESLI_ABI 2
 
@@ -324,8 +324,8 @@ worgesli_forecast worgesli_forecast_table(const uint8_t *table, size_t table_len
  * It is written to `to` from its first byte on, and what is behind it there is as it was. 28 where the set is malformed, which is looked at first; else 29 where
  * the form is longer than `to`, or has more than 2^32 - 2 data bytes (an empty image must not start at the mark of an absent one): then all of `to` is as it
  * was. Since shared bytes are written for each slot, it may be far longer than the set: worgesli_tidy_len tells.
- * Archives of number 2 from before this function and the next do not have them, and the first that have them drop absent slots behind the last present one (of
- * one absent slot worgesli_tidy_len then tells 8, and not 16): who uses dlopen looks. */
+ * Archives of number 2 from before this function and the next do not have them, and the first that have them drop absent slots behind the last present one: who
+ * may meet an older archive than this header, at run time or when it is linked, looks (of one absent slot worgesli_tidy_len then tells 8, and not 16). */
 worgesli_tidied worgesli_tidy(const uint8_t *set, size_t set_len, uint8_t *to, size_t to_len);
 
 /* How long the tidy form is, for who allocates. 28 where the set is malformed; else 29, only for more than 2^32 - 2 data bytes. */

@@ -238,13 +238,21 @@ static bool tell_the_same(worgesli_placed a, const bundle *set, worgesli_placed 
         return false;
     if (a.answer != WORGESLI_ANSWER_IMAGE)
         return a.first == b.first;
-    EXPECT(a.first + a.second <= set->len && b.first + b.second <= form->len);
-    return memcmp(set->bytes + a.first, form->bytes + b.first, (size_t)a.second) == 0;
+    const bool within = a.first <= set->len && a.second <= set->len - a.first && b.first <= form->len && b.second <= form->len - b.first;
+    EXPECT(within);
+    return within && memcmp(set->bytes + a.first, form->bytes + b.first, (size_t)a.second) == 0;
 }
 
 /* ---- what came: each answer, each finish, each refusal, and what else is worth a count */
 
 static unsigned answers[9], finishes[5], refusals[30], moved, other_id, gone_on, nothing_finished;
+
+static void tally(unsigned *counts, size_t n, uint64_t i)
+{
+    EXPECT(i < n);
+    if (i < n)
+        counts[i]++;
+}
 
 static void count(uint32_t phase, const run *r, worgesli_placed a, worgesli_placed b, const image_set *set)
 {
@@ -257,6 +265,9 @@ static void count(uint32_t phase, const run *r, worgesli_placed a, worgesli_plac
     gone_on += first_alone && a.answer == WORGESLI_ANSWER_GO && whole; /* only a DoneResp is whole and answered by go */
     nothing_finished += set->n == 1 && set->slots[0].bytes == NULL && a.answer == WORGESLI_ANSWER_FINISHED && a.first == WORGESLI_FINISHED_IMAGES_SENT;
 }
+
+/* What the last two steps gave. */
+static worgesli_placed last[2];
 
 /* ---- sessions at random */
 
@@ -330,11 +341,14 @@ static bool apart(const image_set *set, const bundle *form)
             memcpy(&other, form, sizeof other), other.len -= one_in(2) ? 1 : 0;
         const uint32_t phase = ours.session.phase;
         const worgesli_placed a = step(&ours, &l, others ? &other : &set->all), b = step(&theirs, &l, others ? &other : form);
+        last[0] = a, last[1] = b;
         if (!tell_the_same(a, others ? &other : &set->all, b, others ? &other : form) || !same(&ours, &theirs) || (others && a.first != b.first))
             return true;
-        answers[a.answer]++;
-        if (a.answer == WORGESLI_ANSWER_FINISHED || a.answer == WORGESLI_ANSWER_REFUSED)
-            (a.answer == WORGESLI_ANSWER_FINISHED ? finishes : refusals)[a.first]++;
+        tally(answers, COUNT(answers), a.answer);
+        if (a.answer == WORGESLI_ANSWER_FINISHED)
+            tally(finishes, COUNT(finishes), a.first);
+        if (a.answer == WORGESLI_ANSWER_REFUSED)
+            tally(refusals, COUNT(refusals), a.first);
         if (!others)
             count(phase, &ours, a, b, set);
         memmove(queue, queue + a.taken, queued -= a.taken);
@@ -348,14 +362,18 @@ static void any_session(void)
 {
     static image_set set;
     static bundle form;
-    for (int round = 0; round < 40000; round++) {
+    for (int round = 0; round < 40000 && !failed; round++) {
         any_set(&set), make_form(&set, RIGHT, &form);
         if (apart(&set, &form)) {
-            fprintf(stderr, "tidied.c: in round %d a set and its tidy form are told apart\n", round);
+            fprintf(stderr, "tidied.c: in round %d a set of %zu slots and its tidy form are told apart:\n", round, set.n);
+            for (size_t i = 0; i < 2; i++)
+                fprintf(stderr, "    answer %u, %llu, %llu, %zu bytes taken\n", (unsigned)last[i].answer, (unsigned long long)last[i].first,
+                        (unsigned long long)last[i].second, last[i].taken);
             failed = 1;
-            return;
         }
     }
+    if (failed)
+        return;
     for (size_t i = 0; i < COUNT(answers); i++)
         EXPECT(answers[i] > 20);
     for (size_t i = 1; i < COUNT(finishes); i++)
@@ -372,9 +390,9 @@ static void wrong_forms(void)
     static bundle form;
     for (form_kind kind = ALL_DROPPED; kind < FORMS; kind++) {
         unsigned told = 0;
-        for (int round = 0; round < 5000; round++)
+        for (int round = 0; round < 5000 && !failed; round++)
             any_set(&set), make_form(&set, kind, &form), told += apart(&set, &form);
-        EXPECT(told > 20);
+        EXPECT(failed || told > 20);
         if (told <= 20)
             fprintf(stderr, "tidied.c: wrong form %d: %u\n", (int)kind, told);
     }

@@ -69,7 +69,7 @@ fn bundles_before(set: &ImageSet, names: &NameList) -> Option<[u8; DIGEST]> {
     (!same).then(|| digest(&[&images.0, images.1, &list.0, list.1]))
 }
 
-/// Whether a run was saved with this image set and these names, by this version or one before.
+/// Whether a run was saved with the bytes of this image set and these names, or with those that version 0.4.0 wrote for them.
 fn saved_with(sum: &[u8], set: &ImageSet, names: &NameList) -> bool {
     sum == bundles(set, names) || bundles_before(set, names).is_some_and(|before| sum == before)
 }

@@ -1,4 +1,4 @@
-//! Tidy image sets: one form for all that have the same images in as many slots.
+//! Tidy image sets: one form for all of as many slots with the same image in each.
 use crate::{raw, ImageSet, Refusal};
 
 /// The tidy form of an image set's bytes. Equal sets, and no others, have the same.

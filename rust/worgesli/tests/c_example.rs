@@ -1052,6 +1052,10 @@ fn sets_are_tidied() {
         let folder = folder_with(b"\x02\0\0\0\x06\0\0\0\x01\0\0\0\xff\xff\xff\xff\x04\0\0\0\0\0\0\0-boot-");
         let form = b"\x02\0\0\0\x04\0\0\0\0\0\0\0\xff\xff\xff\xff\x04\0\0\0\0\0\0\0boot";
         made(&mut tidy(program, &folder, "set", "tidy"), &folder, form);
+        // absent slots alone: as many marks
+        let marks = b"\xff\xff\xff\xff\xff\xff\xff\xff\0\0\0\0\0\0\0\0";
+        let folder = folder_with(&[b"\x02\0\0\0\x03\0\0\0", &marks[..], b"gap"].concat());
+        made(&mut tidy(program, &folder, "set", "tidy"), &folder, &[b"\x02\0\0\0\0\0\0\0", &marks[..]].concat());
         let mut rng = Rng::new(21);
         for seed in 0..40u32 {
             let (set, form) = random_set(&mut rng);

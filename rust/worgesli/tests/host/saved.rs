@@ -2,7 +2,7 @@
 use crate::world::{worlds, Kept, Record, World};
 use device::{Device, Division, Faults, Memory, Region, Rng, Turn, Width, Wire};
 use std::io::{self, ErrorKind};
-use worgesli::{Backend, Command, Count, Driver, Entry, Error, Mode, Options, Outcome, RestoreError, Sink, Unkept};
+use worgesli::{Backend, Command, Count, Driver, Entry, Error, ImageSet, Mode, Options, Outcome, RestoreError, Sink, Unkept};
 
 /// A sink with a gathering of its own.
 pub struct Gathering<S>(pub S, pub usize);
@@ -130,6 +130,28 @@ fn saved_by_0_4_0_with_an_empty_slot() {
             assert_eq!(other.restore(&saved).unwrap_err(), RestoreError::OtherBundles);
         }
     }
+}
+
+/// A run over a tidy form goes on with these bytes, wherever they come from, and with no others: not those of the set, nor of a form without the absent slot at its
+/// end. And what version 0.4.0 began was no tidy form.
+#[test]
+fn saved_over_a_tidy_form() {
+    let options = Options::new(Backend::Usb, Mode::WaitingForImage);
+    let (first, empty) = (Some(b"-boot-".to_vec()), Some(vec![]));
+    let written = ImageSet::new(&[first.clone(), empty.clone(), None]).unwrap();
+    // the empty image starts elsewhere
+    let mut set = written.bytes().to_vec();
+    set[12] = 0;
+    let (set, form) = (ImageSet::from_bytes(set.clone()).unwrap(), ImageSet::from_bytes(set).unwrap().tidied().unwrap());
+    let saved = options.clone().image_set(form.clone()).start().unwrap().save();
+    for same in [form.clone(), ImageSet::from_bytes(form.bytes().to_vec()).unwrap(), written] {
+        assert_eq!(options.clone().image_set(same).restore(&saved).unwrap().save(), saved);
+    }
+    for other in [set.clone(), ImageSet::new(&[first, empty]).unwrap().tidied().unwrap()] {
+        assert_eq!(options.clone().image_set(other).restore(&saved).unwrap_err(), RestoreError::OtherBundles);
+    }
+    let before = options.clone().image_set(set).start().unwrap().save();
+    assert_eq!(options.image_set(form).restore(&before).unwrap_err(), RestoreError::OtherBundles);
 }
 
 /// A run of the crate before, which knew devices of 64 bits alone, saved when 200 bytes of a region had come and 150 were the sink's: it goes on to

@@ -47,9 +47,14 @@ fn equal(a: &[Option<&[u8]>], b: &[Option<&[u8]>]) -> bool {
 /// Data in slot order, each present image's bytes once for its slot, no gaps, an empty image starting where the bytes before it end, absent slots marked, as many
 /// slots as there were.
 fn form(slots: &[Option<&[u8]>]) -> Vec<u8> {
+    form_with(slots, ABSENT)
+}
+
+/// The same with another mark of absent slots.
+pub fn form_with(slots: &[Option<&[u8]>], mark: Slot) -> Vec<u8> {
     let (mut data, mut ranges) = (Vec::new(), Vec::new());
     for slot in slots {
-        ranges.push(slot.map_or(ABSENT, |image| (data.len() as u32, image.len() as u32)));
+        ranges.push(slot.map_or(mark, |image| (data.len() as u32, image.len() as u32)));
         data.extend(slot.unwrap_or_default());
     }
     set(&ranges, &data)
@@ -121,7 +126,11 @@ fn forms_by_hand() {
         assert_eq!(tidy(&due), Ok(due));
     }
     assert_eq!(tidy(&[0; 8]).unwrap(), [0; 8]);
-    // n slots without an image: n, 0, n marks, n zeros
+}
+
+/// n slots without an image: n, 0, n marks, n zeros.
+#[test]
+fn absent_slots_alone() {
     for n in 0..=SLOTS {
         let due = [&[n as u8, 0, 0, 0, 0, 0, 0, 0][..], &vec![0xff; 4 * n], &vec![0; 4 * n]].concat();
         assert_eq!(ImageSet::new(&vec![None; n]).unwrap().tidied().unwrap().bytes(), due);

@@ -1,7 +1,7 @@
 //! A device gets the same from an image set and from its tidy form: lists of steps of any session, made with either, each step lent all else alike. Answers with
 //! their values, bytes taken, sessions and buffers must be the same, and of an image its length and bytes; where it starts in its set need not be.
 use crate::bad_input::{numbers, step};
-use crate::tidy::{random, set, slots, Slot, ABSENT};
+use crate::tidy::{form_with, random, set, slots, Slot, ABSENT};
 use device::{Region, Rng, Width};
 use std::collections::BTreeMap;
 use worgesli::{raw, tidy, Answer, Backend, Mode, NameList, Session, SLOTS};
@@ -371,16 +371,6 @@ const WRONG: [Wrong; 8] = [
     ("absent slots have a length", |_, _| {}, (u32::MAX, 1)),
 ];
 
-/// These images one behind the other, and absent ones with this mark.
-fn written(images: &[Option<Vec<u8>>], mark: Slot) -> Vec<u8> {
-    let (mut data, mut slots) = (Vec::new(), Vec::new());
-    for image in images {
-        slots.push(image.as_ref().map_or(mark, |image| (data.len() as u32, image.len() as u32)));
-        data.extend(image.iter().flatten());
-    }
-    set(&slots, &data)
-}
-
 /// They are told apart from their sets, where a device can see it.
 #[test]
 fn wrong_forms() {
@@ -390,7 +380,7 @@ fn wrong_forms() {
             let set = any_set(&mut rng);
             let mut images = slots(&set).into_iter().map(|image| image.map(Vec::from)).collect();
             wrong(&mut rng, &mut images);
-            let form = written(&images, mark);
+            let form = form_with(&images.iter().map(Option::as_deref).collect::<Vec<_>>(), mark);
             made += u32::from(form != tidy(&set).unwrap());
             told += u32::from(apart(&mut rng, &set, &form, &mut seen).is_some());
         }
