@@ -27,7 +27,7 @@ startAside (A.Close i) = A.Close i
 startAside (A.Finished how r) = A.Finished how r
 startAside (A.Refused why) = A.Refused why
 
--- all else that a step gives: state, bytes taken, and each lent buffer as it is afterwards
+-- all that a step gives, its answer so: state, bytes taken, and each lent buffer as it is afterwards
 abbrev pub givenAside : {S : Type 0} → Given S → Given S
 givenAside r =
     record {
