@@ -4,15 +4,14 @@
 use mathlib.Core.Path.{_≡_, refl, sym, ap, _∙_}
 use mathlib.Core.Bool.{Bool, true, false, not}
 use mathlib.Core.List.{List, [], _∷_}
-use mathlib.Core.Option.{none, some}
+use mathlib.Core.Option.{none, Option·none-ne-some, Option·some-injective}
 use Prim.Native.Nat.{ℕ, _+_, _-_, _^_, min}
-use native.Mathlib.Omega.{arith}
-use borrow.Author.Tests.{ltb-false}
+use borrow.Author.Tests.{ltb-false, not-false}
 use lib.Dec.{eqb, ltb, leb}
 use lib.ListN.{length, take}
 use Rattle.base.specs.Choice.{pick}
 use Rattle.base.proofs.Ranges.{by-else}
-use Rattle.base.proofs.Tests.{split, differ}
+use Rattle.base.proofs.Tests.{split}
 use Rattle.field.specs.Field.{fieldSize}
 use Rattle.bundle.specs.Bundle.{wellFormed}
 use Rattle.entry.specs.Entry.{entryOf, filenameOf, entriesIn}
@@ -47,9 +46,6 @@ use Rattle.two_runs.proofs.Verdict.{verdictAside, verdictBytes, Verdict
 
 -- ---- a step that judges a packet (`Judges` of specs/Alike) does what the verdict on it asks for
 
-none≢some : {p : List ℕ} → none ≡ some p → ⊥
-none≢some e = let z : _≡_ {A = ℕ} 0 1 = cc in omega arith
-
 module _ (s : Session) (d set names t y o p : List ℕ) (j : Judges s d set names t y o p) where
   abbrev taken : ℕ
   taken = min (lengthField (keep (s .window) (j .held) d) - j .held) (length d)
@@ -61,10 +57,10 @@ module _ (s : Session) (d set names t y o p : List ℕ) (j : Judges s d set name
   unfolding madeWhole packetOf sizedOf wholeOf
   judged =
       let h : ℕ = j .held in
-      let a = by-else (ltb (h + length d) 8) none _ none≢some (j .whole) in
-      let b = by-else (badLength (lengthField (keep (s .window) h d))) none _ none≢some (a .1) in
-      let c = by-else (ltb (h + taken) (lengthField (keep (s .window) h d))) none _ none≢some (b .1) in
-      let e : take (lengthField window) window ≡ p = let x = c .1 in cc in
+      let a = by-else (ltb (h + length d) 8) none _ (Option·none-ne-some p) (j .whole) in
+      let b = by-else (badLength (lengthField (keep (s .window) h d))) none _ (Option·none-ne-some p) (a .1) in
+      let c = by-else (ltb (h + taken) (lengthField (keep (s .window) h d))) none _ (Option·none-ne-some p) (b .1) in
+      let e : take (lengthField window) window ≡ p = Option·some-injective _ p (c .1) in
       step-is-phase s set names t y o (j .order) d
       ∙ ap (λ (q : Phase). onPhase s q d set names t y o) (j .phase)
       ∙ rw (a .0, b .0, c .0, e) refl
@@ -194,13 +190,6 @@ module _ (a b : List ℕ) (wa : wellFormed true a ≡ true) (wb : wellFormed tru
   phase-alike (P.Region k x) e i = region-unread s d t y o a b k x
   phase-alike (P.Ended k) e i = refl
 
-  formed-names : not (wellFormed false names) ≡ false → wellFormed false names ≡ true
-  formed-names e = by (wellFormed false names) e
-    where
-      by : (x : Bool) → not x ≡ false → x ≡ true
-      by true f = refl
-      by false f = differ (sym f)
-
   pub step-alike : seenOf d a (givenOf (stepOf s d a names t y o)) ≡ seenOf d b (givenOf (stepOf s d b names t y o))
   unfolding stepOf
   step-alike =
@@ -213,4 +202,4 @@ module _ (a b : List ℕ) (wa : wellFormed true a ≡ true) (wb : wellFormed tru
       split-two Both (isEnded (s .phase)) (λ q. refl)
       (λ q.
       split-two Both (limitOf s t y) (λ l. refl)
-      (λ l. phase-alike (s .phase) refl (record { images = wa; stems = formed-names e; room = ltb-false _ _ r; limits = l }))))))
+      (λ l. phase-alike (s .phase) refl (record { images = wa; stems = not-false _ e; room = ltb-false _ _ r; limits = l }))))))

@@ -3,7 +3,7 @@
 use mathlib.Core.Path.{_≡_, refl, sym, ap, _∙_}
 use mathlib.Core.Bool.{true}
 use mathlib.Core.List.{List, [], _∷_, _++_}
-use mathlib.Core.Option.{none, some}
+use mathlib.Core.Option.{none, some, Option·none-ne-some, Option·some-injective}
 use Prim.Native.Nat.{ℕ, zero, suc, _≤_}
 use native.Mathlib.Omega.{arith}
 use lib.ListN.{take, replicate}
@@ -58,7 +58,7 @@ packet-agrees : (p : List ℕ) → madeWhole (openedWith (setting .opening)) 0 p
 packet-agrees p w c q r j =
     let h : 0 ≡ j .held = let x = j .phase in cc in
     let v : madeWhole (openedWith (setting .opening)) 0 p ≡ some r = ap (λ (k : ℕ). madeWhole (openedWith (setting .opening)) k p) h ∙ j .whole in
-    let e : p ≡ r = let x : some p ≡ some r = sym w ∙ v in cc in
+    let e : p ≡ r = Option·some-injective p r (sym w ∙ v) in
     rw (← e) c
 
 -- the first three bytes are read
@@ -106,7 +106,7 @@ cut-alike =
     let h : 0 ≡ j .held = let x = j .phase in cc in
     let w : none ≡ some p =
     sym cut-none ∙ ap (λ (k : ℕ). madeWhole (openedWith (setting .opening)) k (take 17 (read 0 0 4))) h ∙ j .whole in
-    absurd (let z : _≡_ {A = ℕ} 0 1 = cc in omega arith))
+    absurd (Option·none-ne-some p w))
 
 -- ---- it is read
 
