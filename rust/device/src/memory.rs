@@ -1,5 +1,6 @@
 //! A device's memory: a function from addresses to bytes, with a table of regions in it.
 use crate::{mix, Rng, Width};
+use std::sync::Arc;
 
 /// What an entry of the memory table says.
 #[derive(Clone, Copy, Debug, PartialEq, Eq)]
@@ -56,7 +57,7 @@ const PERIOD: usize = 65_521;
 #[derive(Clone, Debug)]
 enum Fill {
     /// twice the period, so that a stretch of it lies in one piece
-    Pattern(Vec<u8>),
+    Pattern(Arc<Vec<u8>>),
     /// of each address its own byte, by this seed
     Mixed(u64),
 }
@@ -87,7 +88,7 @@ impl Memory {
         let mut pattern = vec![0; PERIOD];
         Rng::new(seed).fill(&mut pattern);
         pattern.extend_from_within(..);
-        Memory { width: Width::Bits64, fill: Fill::Pattern(pattern), table_at, table }
+        Memory { width: Width::Bits64, fill: Fill::Pattern(Arc::new(pattern)), table_at, table }
     }
 
     /// Bytes that do not repeat. It costs little to make and much to read.
@@ -96,7 +97,7 @@ impl Memory {
     }
 
     pub fn empty() -> Memory {
-        Memory { width: Width::Bits64, fill: Fill::Pattern(vec![0; 2 * PERIOD]), table_at: 0, table: Vec::new() }
+        Memory { width: Width::Bits64, fill: Fill::Pattern(Arc::new(vec![0; 2 * PERIOD])), table_at: 0, table: Vec::new() }
     }
 
     /// The memory of a board of this width.

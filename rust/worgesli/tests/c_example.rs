@@ -21,7 +21,7 @@ use worgesli::ImageSet;
 // ---- the programs
 
 fn root() -> PathBuf {
-    Path::new(env!("CARGO_MANIFEST_DIR")).join("../..").canonicalize().unwrap()
+    Path::new(env!("CARGO_MANIFEST_DIR")).join("../../..").canonicalize().unwrap()
 }
 
 /// A shell's command, in the repository.
@@ -104,6 +104,7 @@ impl Example {
             return None;
         }
         let (line, to) = line_of_the_readme(self.name);
+        fs::create_dir_all(to.parent().unwrap()).unwrap();
         compiled(&line);
         Some(to)
     }
@@ -205,7 +206,8 @@ impl Call {
                 shell
             }
         };
-        call.args(["-t", "1000"]).args(self.usb.then_some("-u")).args(self.allows.map(|n| format!("-m{n}")));
+        // so long that a slow machine is no silent device
+        call.args(["-t", "20000"]).args(self.usb.then_some("-u")).args(self.allows.map(|n| format!("-m{n}")));
         call.arg(port).arg(folder).args(&self.names);
         call.envs(self.faults.map(|seed| ("FAULTS", seed.to_string()))).envs(self.fail.clone().map(|f| ("FAIL", f)));
         call.envs(self.free.map(|n| ("FREE", n.to_string()))).envs(self.forecast.map(|n| ("FORECAST", n.to_string())));
@@ -518,23 +520,28 @@ fn lengths_without_a_sum() {
     let regions = [Region::new("A.BIN", 7, 5000), Region::new("B.BIN", 0, 1 << 63), Region::new("C.BIN", 0, 1 << 63)];
     let memory = memory(Width::Bits64, 3, &regions);
     let opening = 48 + 24 + memory.table_len();
-    for build in builds() {
-        for allows in [None, Some(u64::MAX), Some(u64::MAX - 1)] {
-            let temporary = Temporary::new();
-            let call = Call { allows, ..Call::new(build) };
-            let (said, device) = call.run(Device::dump(memory.clone()), 1, opening + 6000, &temporary.dump());
-            let why = "fetch: no forecast: the bytes or the memory reads of a forecast are above 2^64 - 1\n";
-            assert!(said.error.starts_with(why), "{said:?}");
-            if allows == Some(u64::MAX - 1) {
-                said.failed("nothing was fetched: there is more than -m allows");
-                assert_eq!((device.unwrap().reads(), temporary.files().len()), (1, 0));
-            } else {
-                said.failed("NOT whole: B.BIN.part has 1000 of 9223372036854775808 bytes");
-                assert!(temporary.files()["A.BIN"] == memory.bytes(7, 5000));
-            }
-            assert!(said.out.starts_with(&sheet(&regions)) && !said.out.contains("forecast"), "{said:?}");
+    let fetch = |build: Build, allows: Option<u64>| {
+        let temporary = Temporary::new();
+        let call = Call { allows, ..Call::new(build) };
+        let (said, device) = call.run(Device::dump(memory.clone()), 1, opening + 6000, &temporary.dump());
+        let why = "fetch: no forecast: the bytes or the memory reads of a forecast are above 2^64 - 1\n";
+        assert!(said.error.starts_with(why), "{said:?}");
+        if allows == Some(u64::MAX - 1) {
+            said.failed("nothing was fetched: there is more than -m allows");
+            assert_eq!((device.unwrap().reads(), temporary.files().len()), (1, 0));
+        } else {
+            said.failed("NOT whole: B.BIN.part has 1000 of 9223372036854775808 bytes");
+            assert!(temporary.files()["A.BIN"] == memory.bytes(7, 5000));
         }
-    }
+        assert!(said.out.starts_with(&sheet(&regions)) && !said.out.contains("forecast"), "{said:?}");
+    };
+    // they wait together until the channel counts as closed
+    thread::scope(|scope| {
+        for (build, allows) in builds().into_iter().flat_map(|b| [None, Some(u64::MAX), Some(u64::MAX - 1)].map(|a| (b, a))) {
+            let fetch = &fetch;
+            scope.spawn(move || fetch(build, allows));
+        }
+    });
 }
 
 /// Less free space than that is warned of, and the fetch is made: by blocks, of which the last may be filled in part. Where it cannot be told there is no
@@ -628,38 +635,42 @@ fn side_by_side() {
 /// A device that dies: what is whole is whole, and of the open region its beginning is there, as a part.
 #[test]
 fn the_device_dies() {
-    for (build, width) in boards() {
-        for seed in 0..if build == Build::Plain { 6 } else { 60 } {
-            let mut rng = Rng::new(seed);
-            let (regions, names) = regions(width, &mut rng);
-            let memory = memory(width, seed, &regions);
-            let before = 48 + width.packet_len() as u64 + memory.table_len();
-            let left = rng.below(before + regions.iter().map(|r| r.len).sum::<u64>());
-            let temporary = Temporary::new();
-            let call = Call { usb: seed % 2 == 0, faults: (build == Build::Checked).then_some(seed), ..Call::new(build) };
-            let (said, _) = call.run(Device::dump(memory.clone()), seed, left, &temporary.dump());
-            // it may be gone before it was asked
-            let reason = ["the channel was closed", "writing to the port", "reading from the port"]
-                .iter()
-                .find(|r| said.error.contains(**r));
-            said.failed(reason.unwrap_or_else(|| panic!("{said:?}")));
-            let files = temporary.files();
-            let whole = held(&files, &memory, &regions, &names);
-            assert!(said.error.contains(&format!("whole regions: {whole}\n")), "{said:?}");
-            // no sheet of a part of a table
-            assert!(if left < before { said.out.is_empty() } else { said.out.starts_with(&sheet(&regions)) }, "{said:?}");
-            let parts = files.keys().find(|f| f.ends_with(".part"));
-            // every byte that came is kept
-            let kept: usize = files.values().map(Vec::len).sum();
-            assert_eq!(kept as u64, left.saturating_sub(before), "{said:?}");
-            if let Some(part) = parts {
-                let len = regions[whole].len;
-                assert!(
-                    said.error.contains(&format!("NOT whole: {part} has {} of {len} bytes\n", files[part].len())),
-                    "{said:?}"
-                );
+    thread::scope(|scope| {
+        for (build, width) in boards() {
+            match build {
+                // half a second each, until the channel counts as closed: they wait together
+                Build::Plain => (0..6).for_each(|seed| drop(scope.spawn(move || dies(build, width, seed)))),
+                Build::Checked => (0..60).for_each(|seed| dies(build, width, seed)),
             }
         }
+    });
+}
+
+fn dies(build: Build, width: Width, seed: u64) {
+    let mut rng = Rng::new(seed);
+    let (regions, names) = regions(width, &mut rng);
+    let memory = memory(width, seed, &regions);
+    let before = 48 + width.packet_len() as u64 + memory.table_len();
+    let left = rng.below(before + regions.iter().map(|r| r.len).sum::<u64>());
+    let temporary = Temporary::new();
+    let call = Call { usb: seed.is_multiple_of(2), faults: (build == Build::Checked).then_some(seed), ..Call::new(build) };
+    let (said, _) = call.run(Device::dump(memory.clone()), seed, left, &temporary.dump());
+    // it may be gone before it was asked
+    let reason =
+        ["the channel was closed", "writing to the port", "reading from the port"].iter().find(|r| said.error.contains(**r));
+    said.failed(reason.unwrap_or_else(|| panic!("{said:?}")));
+    let files = temporary.files();
+    let whole = held(&files, &memory, &regions, &names);
+    assert!(said.error.contains(&format!("whole regions: {whole}\n")), "{said:?}");
+    // no sheet of a part of a table
+    assert!(if left < before { said.out.is_empty() } else { said.out.starts_with(&sheet(&regions)) }, "{said:?}");
+    let parts = files.keys().find(|f| f.ends_with(".part"));
+    // every byte that came is kept
+    let kept: usize = files.values().map(Vec::len).sum();
+    assert_eq!(kept as u64, left.saturating_sub(before), "{said:?}");
+    if let Some(part) = parts {
+        let len = regions[whole].len;
+        assert!(said.error.contains(&format!("NOT whole: {part} has {} of {len} bytes\n", files[part].len())), "{said:?}");
     }
 }
 
@@ -940,7 +951,7 @@ fn without_standard_descriptors() {
         let (near, far) = UnixStream::pair().unwrap();
         let device = Device::dump(memory.clone());
         let device = thread::spawn(move || serve_until(device, far, 1, left).unwrap().0);
-        let line = "exec \"$0\" -t 2000 7 \"$1\" 7<&0 <&- >&- 2>&-";
+        let line = "exec \"$0\" -t 20000 7 \"$1\" 7<&0 <&- >&- 2>&-";
         let mut call = Command::new("sh");
         call.args(["-c", line]).arg(example(Build::Plain).unwrap()).arg(temporary.dump()).stdin(OwnedFd::from(near));
         assert_eq!(call.status().unwrap().code(), Some(code));

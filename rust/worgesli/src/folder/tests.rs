@@ -96,6 +96,7 @@ struct Saved {
 }
 
 /// Plays a driver that saves itself after each call. With checkpoints, only after one.
+#[derive(Clone)]
 struct Player<'a> {
     world: &'a World,
     saved: Vec<Saved>,
@@ -330,16 +331,18 @@ fn each_call_of_going_on_fails() {
     let world = World::new();
     let mut failed = 0;
     for end in (20..110).step_by(3) {
+        let first = Temporary::new();
+        let died = Shaky::new(&first.0, None);
+        died.die_after(end);
+        let mut begun = Player::new(&world, false);
+        if opened(&died, &first.0).is_some_and(|mut folder| begun.run(&mut folder)) {
+            continue;
+        }
         for from in 0..30 {
             for way in 0..3 {
                 let back = from as usize % 3;
-                let t = Temporary::new();
-                let disk = Shaky::new(&t.0, None);
-                disk.die_after(end);
-                let mut player = Player::new(&world, false);
-                if opened(&disk, &t.0).is_some_and(|mut folder| player.run(&mut folder)) {
-                    continue;
-                }
+                let (t, mut player) = (Temporary::new(), begun.clone());
+                let disk = died.copy(&t.0);
                 disk.live((way < 2).then_some(Fault { from, times: 1 + from % 2, error: 5, effect: way == 1 }));
                 if way == 2 {
                     disk.die_after(from);
@@ -371,19 +374,20 @@ fn power_goes_after_each_call() {
     let world = World::new();
     let mut kept = 0;
     let some = [Survives::Some; 6];
-    for (round, survives) in
-        [Survives::Synced, Survives::All, Survives::Names, Survives::Bytes].into_iter().chain(some).enumerate()
-    {
-        for end in 0.. {
-            let (t, image) = (Temporary::new(), Temporary::new());
-            let fault = Fault { from: end / 2, times: 1, error: 5, effect: false };
-            let disk = Shaky::new(&t.0, (end % 4 == 3).then_some(fault));
-            disk.die_after(end);
-            let mut player = Player::new(&world, true);
-            if run_checked(&disk, &t.0, &mut player) {
-                break;
-            }
-            disk.image(&image.0, survives, &mut Rng::new(1000 * round as u64 + end));
+    for end in 0.. {
+        let t = Temporary::new();
+        let fault = Fault { from: end / 2, times: 1, error: 5, effect: false };
+        let died = Shaky::new(&t.0, (end % 4 == 3).then_some(fault));
+        died.die_after(end);
+        let mut begun = Player::new(&world, true);
+        if run_checked(&died, &t.0, &mut begun) {
+            break;
+        }
+        for (round, survives) in
+            [Survives::Synced, Survives::All, Survives::Names, Survives::Bytes].into_iter().chain(some).enumerate()
+        {
+            let (image, mut player) = (Temporary::new(), begun.clone());
+            died.image(&image.0, survives, &mut Rng::new(1000 * round as u64 + end));
             let disk = Shaky::new(&image.0, None);
             let (mut folder, taken) = go_on(&disk, &image.0, &mut player, 0);
             kept += taken;

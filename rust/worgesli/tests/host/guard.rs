@@ -1,4 +1,6 @@
 //! Buffers with a page behind or before them that no one may touch.
+use std::cell::RefCell;
+use std::collections::BTreeMap;
 use std::ffi::c_void;
 use std::ops::{Deref, DerefMut};
 use std::ptr::null_mut;
@@ -31,16 +33,29 @@ pub struct Guarded {
 
 const FILL: u8 = 0xdb;
 
+thread_local! {
+    /// Maps whose buffers are gone, by their pages: to make one anew takes longer than most tests of a buffer.
+    static FREE: RefCell<BTreeMap<usize, Vec<*mut u8>>> = const { RefCell::new(BTreeMap::new()) };
+}
+
+/// A map of so many bytes between two guard pages.
+fn map_of(pages: usize) -> *mut u8 {
+    if let Some(map) = FREE.with_borrow_mut(|free| free.get_mut(&pages)?.pop()) {
+        return map;
+    }
+    // Safe: a new map, of which the middle is made writable.
+    unsafe {
+        let map = mmap(null_mut(), pages + 2 * PAGE, NONE, PRIVATE_ANONYMOUS, -1, 0);
+        assert!(map as isize != -1);
+        assert_eq!(mprotect(map.add(PAGE), pages, READ_WRITE), 0);
+        map as *mut u8
+    }
+}
+
 impl Guarded {
     pub fn new(bytes: &[u8], side: Side) -> Guarded {
         let pages = bytes.len().div_ceil(PAGE).max(1) * PAGE;
-        // Safe: a new map, of which the middle is made writable.
-        let map = unsafe {
-            let map = mmap(null_mut(), pages + 2 * PAGE, NONE, PRIVATE_ANONYMOUS, -1, 0);
-            assert!(map as isize != -1);
-            assert_eq!(mprotect(map.add(PAGE), pages, READ_WRITE), 0);
-            map as *mut u8
-        };
+        let map = map_of(pages);
         let at = match side {
             Side::Behind => PAGE + pages - bytes.len(),
             Side::Before => PAGE,
@@ -56,11 +71,16 @@ impl Guarded {
         unsafe { std::slice::from_raw_parts_mut(self.map.add(PAGE), self.pages) }
     }
 
-    /// No byte of the map beside the buffer has changed.
-    pub fn check(&mut self) {
+    /// Whether no byte of the map beside the buffer has changed.
+    fn untouched(&mut self) -> bool {
         let (at, len) = (self.at - PAGE, self.len);
         let all = self.inside();
-        assert!(all[..at].iter().chain(&all[at + len..]).all(|b| *b == FILL), "a byte beside the buffer was written");
+        let filled = |bytes: &[u8]| bytes.chunks(PAGE).all(|part| *part == [FILL; PAGE][..part.len()]);
+        filled(&all[..at]) && filled(&all[at + len..])
+    }
+
+    pub fn check(&mut self) {
+        assert!(self.untouched(), "a byte beside the buffer was written");
     }
 }
 
@@ -80,9 +100,9 @@ impl DerefMut for Guarded {
 }
 
 impl Drop for Guarded {
+    /// No slice of it is alive.
     fn drop(&mut self) {
-        // Safe: our own map, and no slice of it is alive.
-        unsafe { munmap(self.map as *mut c_void, self.pages + 2 * PAGE) };
+        FREE.with_borrow_mut(|free| free.entry(self.pages).or_default().push(self.map));
     }
 }
 
@@ -153,6 +173,21 @@ fn stray_bytes_are_seen() {
                 let run = std::process::Command::new(exe).args(args).env(NAME, what).output().unwrap();
                 assert_eq!(run.status.signal(), signal, "{what}");
             }
+        }
+    }
+}
+
+/// So does the look beside the buffer, at every place; and pages that are used again are as new.
+#[test]
+fn written_bytes_are_seen() {
+    for (side, len) in [(Side::Behind, 100), (Side::Before, 100), (Side::Behind, 5000), (Side::Before, 5000)] {
+        let buffer = || Guarded::new(&vec![7; len], side);
+        let (own, pages) = (buffer().at - PAGE..buffer().at - PAGE + len, buffer().pages);
+        for place in 0..pages {
+            let mut g = buffer();
+            assert!(g.untouched() && g.iter().all(|b| *b == 7));
+            g.inside()[place] ^= 1;
+            assert_eq!(g.untouched(), own.contains(&place), "{side:?}, {len} bytes, place {place}");
         }
     }
 }

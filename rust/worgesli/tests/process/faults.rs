@@ -15,7 +15,7 @@ fn shim(folder: &Path) -> Option<PathBuf> {
     let library = folder.join("shim.so");
     let mut cc = Command::new(std::env::var_os("CC").unwrap_or("cc".into()));
     cc.args(["-shared", "-fPIC", "-O1", "-Wall", "-Wextra", "-Werror", "-o"]).arg(&library);
-    match cc.arg(here.join("tests/process/shim.c")).status() {
+    match cc.arg(here.join("process/shim.c")).status() {
         Ok(status) => {
             assert!(status.success(), "the C compiler failed");
             Some(library)
@@ -62,11 +62,15 @@ fn each_system_call_fails() {
     let folder = Temporary::new();
     let Some(library) = shim(&folder.0) else { return };
     let faults = [(EIO, false), (ENOSPC, false), (EINTR, false), (EAGAIN, false), (EIO, true), (ENOSPC, true)];
-    for ((number, forever), width) in Width::with_both(faults) {
-        let mut k = 0;
-        while fails(&library, width, k, number, forever) {
-            k += 1;
+    let each = |width| {
+        for (number, forever) in faults {
+            let mut k = 0;
+            while fails(&library, width, k, number, forever) {
+                k += 1;
+            }
+            assert!(k > 40, "{k} calls");
         }
-        assert!(k > 40, "{k} calls");
-    }
+    };
+    // both boards at a time
+    std::thread::scope(|scope| Width::BOTH.map(|width| scope.spawn(move || each(width))).map(drop));
 }

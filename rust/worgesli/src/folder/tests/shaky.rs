@@ -60,7 +60,7 @@ impl Content {
 
 type Names = BTreeMap<PathBuf, usize>;
 
-#[derive(Debug, Default)]
+#[derive(Clone, Debug, Default)]
 struct Model {
     folder: PathBuf,
     calls: u64,
@@ -137,6 +137,18 @@ impl Shaky {
         }
         model.synced = model.names.clone();
         model.changed.clear();
+        Arc::new(Shaky(Mutex::new(model)))
+    }
+
+    /// The same disk over another, empty folder, which gets the files.
+    pub fn copy(&self, to: &Path) -> Arc<Shaky> {
+        let mut model = self.model().clone();
+        model.inodes.clear();
+        for (name, id) in &model.names {
+            fs::copy(model.folder.join(name), to.join(name)).unwrap();
+            model.inodes.insert(fs::metadata(to.join(name)).unwrap().ino(), *id);
+        }
+        model.folder = to.into();
         Arc::new(Shaky(Mutex::new(model)))
     }
 
