@@ -12,7 +12,7 @@ use Rattle.base.proofs.Telling.{tells}
 use Rattle.field.specs.Field.{leBytes, fields}
 use Rattle.field.proofs.Laws.{leBytes-mod}
 use Rattle.field.specs.declared.Width.the-variants as WI
-use Rattle.build.specs.Build.{bytesOf, sizeOf, front, buildOutcome, buildTold, buildOf}
+use Rattle.build.specs.Build.{bytesOf, sizeOf, front, BuildOutcome, buildOutcome, buildTold, buildOf}
 use Rattle.build.specs.declared.Request.{Request}
 use Rattle.build.specs.declared.Request.the-variants as Q
 use Rattle.build.specs.declared.Built.the-variants as T
@@ -82,3 +82,7 @@ pub builds : (q : Request) (o e : List ℕ) → 48 ≤ length o → e ≡ sets o
 builds q o e h s =
     let m : sizeOf q ≤ 48 = size-most q in
     tells buildTold (ap (buildOutcome (T.Send (sizeOf q))) (s ∙ stored-front q o (omega arith)) ∙ sym (build-long q o h))
+
+-- and what is built of a request is built of any that is the same
+pub built-so : (o : List ℕ) {q r : Request} {x : BuildOutcome} → Tells buildTold x (buildOf r o) → q ≡ r → Tells buildTold x (buildOf q o)
+built-so o t p = tells buildTold (t .is ∙ ap (λ (y : Request). buildOf y o) (sym p))

@@ -1,8 +1,8 @@
 -- In the order of reading: laws of lists and tests (Basics), packets that are sent (Sent), the device's bytes (Device), the run with the bytes held
 -- (Ghost), the chunk size (Chunk); the invariant (Invariant), and one file a phase that shows it kept (Packet with Cutting and Verdict, Table,
 -- Between, Region); refusals that leave all untouched (Still); what the plain host's report says (Meaning); the theorem (Theorem), and how it goes over to
--- another host (Simulation); of any list of steps: the counter of memory reads (Counter), and that no number passes what was lent (Within); lists that are
--- computed (Played), that the theorem is about something (Example), and that it is false of wrong hosts (Refuted).
+-- another host (Simulation); of any list of steps: the counter of memory reads (Counter), and that no number passes what was lent (Within); lists that can be
+-- computed (Played). That the theorem is about something, and false of wrong hosts, is computed in the crate fetch_shown.
 pub mod Basics
 pub mod Sent
 pub mod Device
@@ -22,5 +22,3 @@ pub mod Simulation
 pub mod Counter
 pub mod Within
 pub mod Played
-pub mod Example
-pub mod Refuted

@@ -95,7 +95,7 @@ module _ (v : Width) (u : Opening) (z : Chunk (chunkOf u)) (mem : ℕ → ℕ) w
   chunk-reads at n =
       let t : Bool = emptyAfter u n in
       rw (
-        asks-read (Q.MemRead v at n),
+        asks-read,
         many-append readIn (map byte (bytesAt mem at n)) (emptyIf t),
         reads-bytes (bytesAt mem at n),
         reads-empty t,

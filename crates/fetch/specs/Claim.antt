@@ -40,7 +40,8 @@ regionReads f u t [] = 0
 regionReads f u t (i ∷ is) = chunkCount u (lengthOf f (entryOf f t i)) + regionReads f u t is
 
 -- the steps, counted by `owns`, that are enough: the bytes, 2 for each selected region, 2 for each memory read, the table's and the chunks'. (That the plain
--- host's own report has so many memory reads: `enough-counts` of proofs/Theorem. That one step fewer is not enough: `tight`, `one-fewer` of proofs/Refuted.)
+-- host's own report has so many memory reads: `enough-counts` of proofs/Theorem. That one step fewer is not enough: `tight`, `one-fewer` of
+-- fetch_shown/proofs/Refuted.)
 unfoldable pub enough : Setting → Debug → ℕ
 enough c dbg =
     let f = fieldIn dbg in

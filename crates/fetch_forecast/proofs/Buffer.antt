@@ -1,10 +1,11 @@
 -- From where a session has its table on, the table buffer stays as it is, to the end of any list and behind it: so the list that the table decodes to is the same
 -- wherever it is decoded, of a session that has ended too. By the branches of a step, then by induction on the list. Assumes nothing.
 use mathlib.Core.Path.{_≡_, refl, ap, _∙_}
+use mathlib.Core.Logic.{⊎-elim, _⊎_, inl, inr}
 use mathlib.Core.Bool.{true, false, not}
 use mathlib.Core.List.{List, [], _∷_}
 use Prim.Native.Nat.{ℕ, _+_, _-_, _^_}
-use lib.Dec.{eqb, ltb, leb}
+use lib.Dec.{T, eqb, ltb, leb}
 use lib.ListN.{length}
 use Rattle.base.proofs.Tests.{split}
 use Rattle.bundle.specs.Bundle.{wellFormed}
@@ -33,57 +34,46 @@ use Rattle.fetch.proofs.Counter.{after}
 use Rattle.fetch.proofs.Theorem.{kept-lent}
 use Rattle.fetch_forecast.specs.Claim.{decodesIn, Decodes}
 
--- the table has come
-abbrev Dumps : Phase → Type 0
-Dumps (P.Packet h) = ⊥
-Dumps (P.Response x) = ⊥
-Dumps (P.Switched k) = ⊥
-Dumps (P.Table x) = ⊥
-Dumps (P.Between k i) = Unit
-Dumps (P.Region k x) = Unit
-Dumps (P.Ended k) = Unit
+-- the table has come: it decodes to a list, the numbers being of f bytes and b the buffer; or the session has ended
+abbrev Had : ℕ → Phase → List ℕ → Type 0
+Had f p b = ((es : List RamdumpTable64) × decodesIn f p b es) ⊎ T (isEnded p)
 
-decodes-dumps : (f : ℕ) (p : Phase) (b : List ℕ) (es : List RamdumpTable64) → decodesIn f p b es → Dumps p
-decodes-dumps f (P.Packet h) b es e = e
-decodes-dumps f (P.Response x) b es e = e
-decodes-dumps f (P.Switched k) b es e = e
-decodes-dumps f (P.Table x) b es e = e
-decodes-dumps f (P.Between k i) b es e = tt
-decodes-dumps f (P.Region k x) b es e = tt
-decodes-dumps f (P.Ended k) b es e = absurd e
+not-had : {X : Type 0} → (List RamdumpTable64 × ⊥) ⊎ ⊥ → X
+not-had e = ⊎-elim (λ x. absurd (x .1)) (λ x. absurd x) e
 
-module _ (s : Session) (d set names t y o : List ℕ) where
+module _ (b : List ℕ) (s : Session) (d set names t y o : List ℕ) where
   -- the lent table is as it was, and it still has come
   record Leaves (r : Outcome) : Type 0 where
     pub table : r .table ≡ t
-    pub dumps : Dumps (r .stepped .session .phase)
+    pub had : Had (fieldSize (r .stepped .session .width)) (r .stepped .session .phase) b
 
-  plainly : (z : Session) (n : ℕ) (a : Answer) (o′ : List ℕ) → Dumps (z .phase) → Leaves (outcome (gives z n a) t y o′)
-  plainly z n a o′ h = record { table = refl; dumps = h }
+  plainly : (z : Session) (n : ℕ) (a : Answer) (o′ : List ℕ) → Had (fieldSize (z .width)) (z .phase) b → Leaves (outcome (gives z n a) t y o′)
+  plainly z n a o′ h = record { table = refl; had = h }
 
   abbrev f : ℕ
   f = fieldSize (s .width)
 
   opening-leaves : (k i : ℕ) (e : List ℕ) (c : NameCheck) → Leaves (outcome (openOf f s k i e c) t y o)
-  opening-leaves k i e N.Good = plainly _ 0 (A.Open i) o tt
-  opening-leaves k i e (N.Refused why) = plainly _ 0 (A.Refused why) o tt
+  opening-leaves k i e N.Good = plainly _ 0 (A.Open i) o (inl (_, refl))
+  opening-leaves k i e (N.Refused why) = plainly _ 0 (A.Refused why) o (inr tt)
 
   between-leaves : (k from : ℕ) → Leaves (outcome (betweenOf f s k from names t) t y o)
   unfolding betweenOf
   between-leaves k from =
       let i : ℕ = nextOf f names t (entriesIn f k - from) from in
       split (λ r. Leaves (outcome r t y o)) (ltb i (entriesIn f k))
-      (λ e. opening-leaves k i (entryOf f t i) (openCheck (filenameOf f (entryOf f t i)))) (λ e. plainly _ 0 (A.Finished 3 (s .reads)) o tt)
+      (λ e. opening-leaves k i (entryOf f t i) (openCheck (filenameOf f (entryOf f t i)))) (λ e. plainly _ 0 (A.Finished 3 (s .reads)) o (inr tt))
 
-  module _ (h : Dumps (s .phase)) where
+  module _ (h : Had f (s .phase) b) where
     module _ (k : ℕ) (x : Region) where
       next-leaves : Leaves (nextChunk s k x t y o)
       unfolding nextChunk
-      next-leaves = split Leaves (leb (x .len) (x .done)) (λ e. plainly _ 0 (A.Close (x .entry)) o tt) (λ e. plainly _ 0 (A.Send _) _ tt)
+      next-leaves =
+          split Leaves (leb (x .len) (x .done)) (λ e. plainly _ 0 (A.Close (x .entry)) o (inl (_, refl))) (λ e. plainly _ 0 (A.Send _) _ (inl (_, refl)))
 
       begun-leaves : (c : NameCheck) → Leaves (begunOf s k x t y o c)
-      begun-leaves N.Good = split Leaves (ltb (256 ^ f) (x .base + x .len)) (λ e. plainly _ 0 (A.Refused _) o tt) (λ e. next-leaves)
-      begun-leaves (N.Refused why) = plainly _ 0 (A.Refused why) o tt
+      begun-leaves N.Good = split Leaves (ltb (256 ^ f) (x .base + x .len)) (λ e. plainly _ 0 (A.Refused _) o (inr tt)) (λ e. next-leaves)
+      begun-leaves (N.Refused why) = plainly _ 0 (A.Refused why) o (inr tt)
 
       ask-leaves : Leaves (askOf s k x t y o)
       unfolding askOf
@@ -91,18 +81,19 @@ module _ (s : Session) (d set names t y o : List ℕ) where
 
       hand-leaves : Leaves (handOf s k x d t y o)
       unfolding handOf
-      hand-leaves = split Leaves (eqb (length d) 0) (λ e. plainly s 0 A.Go o h) (λ e. plainly _ _ (A.Bytes _) o tt)
+      hand-leaves = split Leaves (eqb (length d) 0) (λ e. plainly s 0 A.Go o h) (λ e. plainly _ _ (A.Bytes _) o (inl (_, refl)))
 
       region-leaves : Leaves (regionOf s k x d t y o)
       unfolding regionOf
       region-leaves =
-          split Leaves (x .due) (λ e. plainly _ 0 A.EmptyRead o tt) (λ e. split Leaves (eqb (x .outstanding) 0) (λ i. ask-leaves) (λ i. hand-leaves))
+          split Leaves (x .due) (λ e. plainly _ 0 A.EmptyRead o (inl (_, refl)))
+          (λ e. split Leaves (eqb (x .outstanding) 0) (λ i. ask-leaves) (λ i. hand-leaves))
 
-    phase-leaves : (p : Phase) → Dumps p → Leaves (onPhase s p d set names t y o)
-    phase-leaves (P.Packet j) e = absurd e
-    phase-leaves (P.Response x) e = absurd e
-    phase-leaves (P.Switched k) e = absurd e
-    phase-leaves (P.Table x) e = absurd e
+    phase-leaves : (p : Phase) → Had f p b → Leaves (onPhase s p d set names t y o)
+    phase-leaves (P.Packet j) e = not-had e
+    phase-leaves (P.Response x) e = not-had e
+    phase-leaves (P.Switched k) e = not-had e
+    phase-leaves (P.Table x) e = not-had e
     phase-leaves (P.Between k i) e = between-leaves k i
     phase-leaves (P.Region k x) e = region-leaves k x
     phase-leaves (P.Ended k) e = plainly s 0 (A.Refused 4) o h
@@ -120,15 +111,16 @@ module _ (s : Session) (d set names t y o : List ℕ) where
         (λ k. split Leaves (limitOf s t y) (λ l. plainly s 0 (A.Refused 18) o h) (λ l. phase-leaves (s .phase) h)))))
 
 module _ (c : Setting) where
-  stays : (ls : List Lent) (w : World Session) → Dumps (w .state .phase) → final (after c) w ls .table ≡ w .table
-  stays [] w h = refl
-  stays (l ∷ ls) w h =
+  stays : (b : List ℕ) (ls : List Lent) (w : World Session) → Had (fieldSize (w .state .width)) (w .state .phase) b
+      → final (after c) w ls .table ≡ w .table
+  stays b [] w h = refl
+  stays b (l ∷ ls) w h =
       let r =
-      step-leaves (w .state) (delivered (l .delivery) (w .queue)) (lent (l .set) (c .set)) (lent (l .names) (c .names)) (lent (l .table) (w .table))
+      step-leaves b (w .state) (delivered (l .delivery) (w .queue)) (lent (l .set) (c .set)) (lent (l .names) (c .names)) (lent (l .table) (w .table))
       (lent (l .reply) (w .reply)) (lent (l .out) (w .out)) h in
-      stays ls (after c w l) (r .dumps) ∙ ap (kept (l .table) (w .table)) (r .table) ∙ kept-lent (l .table) (w .table)
+      stays b ls (after c w l) (r .had) ∙ ap (kept (l .table) (w .table)) (r .table) ∙ kept-lent (l .table) (w .table)
 
   -- whatever the steps behind it are lent
   pub buffer-stays : (ls : List Lent) (w : World Session) (es : List RamdumpTable64) → Decodes (w .state) (w .table) es
       → final (after c) w ls .table ≡ w .table
-  buffer-stays ls w es e = stays ls w (decodes-dumps (fieldSize (w .state .width)) (w .state .phase) (w .table) es e)
+  buffer-stays ls w es e = stays (w .table) ls w (inl (es, e))

@@ -9,7 +9,7 @@ use Rattle.entry.specs.Entry.{entryIn, entriesFrom}
 use Rattle.selection.specs.Selection.{selected}
 use Rattle.verdict.specs.Opening.{chunksIn, chunkOf}
 use Rattle.verdict.specs.declared.Opening.{Opening}
-use Rattle.forecast.specs.Forecast.{isSelected, selectedOf, summed}
+use Rattle.forecast_sums.specs.Forecast.{isSelected, selectedOf, summed}
 use Rattle.fetch.specs.Plain.{byte, chosen}
 use Rattle.fetch.specs.Claim.{regionBytes, regionReads}
 use Rattle.fetch.specs.Meaning.{howMany}

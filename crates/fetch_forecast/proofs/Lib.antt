@@ -1,8 +1,5 @@
--- In the order of reading: what is counted (Counting), one step (Step), the theorem (Theorem), that the table buffer stays as it is (Buffer), through the C
--- interface (Raw), and that it is about something (Example).
+-- In the order of reading: what is counted (Counting), one step (Step), the theorem (Theorem), and that the table buffer stays as it is (Buffer).
 pub mod Counting
 pub mod Step
 pub mod Theorem
 pub mod Buffer
-pub mod Raw
-pub mod Example

@@ -28,7 +28,7 @@ use Rattle.verdict.specs.Verdict.{verdictOf}
 use Rattle.verdict.specs.declared.Opening.{Opening}
 use Rattle.verdict.specs.declared.Verdict.{Verdict}
 use Rattle.verdict.specs.declared.Verdict.the-variants as W
-use Rattle.forecast.specs.Forecast.{selectedOf, regionsNeeded, bytesNeeded, readsNeeded}
+use Rattle.forecast_sums.specs.Forecast.{selectedOf, regionsNeeded, bytesNeeded, readsNeeded}
 use Rattle.session.specs.declared.Filling.{Filling}
 use Rattle.session.specs.declared.Region.{Region}
 use Rattle.session.specs.declared.Phase.{Phase}

@@ -13,7 +13,7 @@ use Rattle.base.proofs.Tests.{differ, holds}
 use Rattle.field.specs.Field.{fieldSize}
 use Rattle.entry.specs.declared.RamdumpTable64.{RamdumpTable64}
 use Rattle.verdict.specs.declared.Opening.{Opening}
-use Rattle.forecast.proofs.Laws.{needs-are}
+use Rattle.forecast_sums.proofs.Laws.{needs-are}
 use Rattle.session.specs.declared.Phase.{Phase}
 use Rattle.session.specs.declared.Phase.the-variants as P
 use Rattle.session.specs.declared.Session.{Session}

@@ -2,7 +2,7 @@
 -- table decoded to this list and each unrefused step lent these names and the same table buffer, which nobody else writes, these equal the regions it opened, the
 -- bytes it handed out and the memory reads it reported." The device may be any, true or not: in the world of fetch/specs/Device a step is delivered the queue's
 -- first bytes or any others, and what it is lent besides (image set, reply and out buffer) may be another's in each step. The theorem, `Foretells definitions
--- Decodes`, is `foretold` of proofs/Theorem, and through the C interface `foretold-raw` of proofs/Raw.
+-- Decodes`, is `foretold` of proofs/Theorem; through the C interface and from the exported function it stands in fetch_forecast_raw.
 use Prim.Native.Nat.{ℕ}
 use mathlib.Core.Logic.{_⊎_}
 use mathlib.Core.Path.{_≡_}
@@ -14,8 +14,8 @@ use Rattle.field.specs.Field.{fieldSize}
 use Rattle.entry.specs.Entry.{entriesOf}
 use Rattle.entry.specs.declared.RamdumpTable64.{RamdumpTable64}
 use Rattle.verdict.specs.Opening.{chunkOf}
-use Rattle.forecast.specs.Forecast.{forecastOf}
-use Rattle.forecast.specs.declared.Foreseen.the-variants as F
+use Rattle.forecast_sums.specs.Forecast.{forecastOf}
+use Rattle.forecast_sums.specs.declared.Foreseen.the-variants as F
 use Rattle.session.specs.declared.Phase.{Phase}
 use Rattle.session.specs.declared.Phase.the-variants as P
 use Rattle.session.specs.declared.Session.{Session}

@@ -1,42 +1,18 @@
--- The theorem is about something: a device of fetch/proofs/Refuted of either width with a region of 2 bytes, calls by value and in place by turns, deliveries of any
--- size: its whole report. Assumes nothing.
+-- The theorem is about something: the device `two` of fetch_shown/proofs/Refuted, of either width, calls by value and in place by turns, deliveries of any
+-- size: the plain host's whole report. Assumes nothing.
 use mathlib.Core.Path.{_≡_, refl, _∙_}
-use mathlib.Core.List.{List, [], _∷_}
 use Prim.Native.Nat.{ℕ, zero, suc, _≤_}
 use native.Mathlib.Omega.{arith}
-use Rattle.field.specs.Field.{le, leBytes, fieldSize, fields}
+use Rattle.field.specs.Field.{le, leBytes, fields}
 use Rattle.field.specs.declared.Width.{Width}
 use Rattle.field.specs.declared.Width.the-variants as WI
-use Rattle.bundle.specs.Bundle.{slotsGood, wellFormed}
-use Rattle.entry.specs.Entry.{entrySize}
 use Rattle.selection.specs.Selection.{selected}
-use Rattle.command.specs.Command.{kinds, classOf}
-use Rattle.packet.specs.Packet.{kindOf, decodeOf}
-use Rattle.build.specs.Build.{bytesOf}
-use Rattle.build.specs.declared.Request.the-variants as Q
 use Rattle.verdict.specs.Opening.{chunkOf}
-use Rattle.verdict.specs.Verdict.{verdictOf}
-use Rattle.fetch.specs.Plain.{
-  Report,
-  sent,
-  opened,
-  byte,
-  closed,
-  finished,
-  bytesAt,
-  hear,
-  hosted,
-  chosen,
-  chunks,
-  regions,
-  dump,
-  reportsOf,
-  plain,
-}
+use Rattle.fetch.specs.Plain.{bytesAt, chosen}
 use Rattle.fetch.specs.Device.{start}
 use Rattle.fetch.specs.Claim.{reports, regionBytes, regionReads, enough, dumps}
 use Rattle.fetch.proofs.Played.{drive, drive-fair, drive-owns}
-use Rattle.fetch.proofs.Refuted.{entriesAt, two, two-premises}
+use Rattle.fetch_shown.proofs.Refuted.{entriesAt, two, twoTold, two-premises, two-planned}
 use Rattle.fetch_raw.specs.Calls.{Call, byValue, inPlace, calling}
 use Rattle.fetch_raw.proofs.Theorem.{fetch-raw}
 
@@ -56,21 +32,10 @@ unfolding enough regionBytes regionReads chunkOf chosen selected bytesAt fields 
 steps WI.Bits32 = refl
 steps WI.Bits64 = refl
 
--- the whole report
-abbrev told : Width → List Report
-told v =
-    sent (bytesOf (Q.MemRead v 0 (entrySize (fieldSize v)))) ∷ opened 0 ∷ sent (bytesOf (Q.MemRead v 1000 2)) ∷ byte 247 ∷ byte 248 ∷ closed 0 ∷ finished 3 2 ∷ []
-
-planned : (v : Width) → plain (two v) ≡ told v
-unfolding plain hosted hear reportsOf dump regions chunks chosen chunkOf wellFormed slotsGood verdictOf decodeOf classOf kinds kindOf bytesOf selected
-    bytesAt fields le leBytes
-planned WI.Bits32 = refl
-planned WI.Bits64 = refl
-
 pub mixed : (v : Width) (m : ℕ) → 1 ≤ m
-    → reports (calling byTurns) (two v) (start (calling byTurns) (two v)) (drive m (needed v)) ≡ told v
+    → reports (calling byTurns) (two v) (start (calling byTurns) (two v)) (drive m (needed v)) ≡ twoTold v
 mixed v m e =
     let w = start (calling byTurns) (two v) in
     fetch-raw byTurns (two v) (dumps (entriesAt v 1) (two-premises v)) (drive m (needed v)) (drive-fair (calling byTurns) (two v) m (needed v) w e) .whole
     (omega (arith, steps v, drive-owns (calling byTurns) (two v) m (needed v) w))
-    ∙ planned v
+    ∙ two-planned v

@@ -1,3 +1,2 @@
 pub mod While
-pub mod Laws
-pub mod Telling
+pub mod Search

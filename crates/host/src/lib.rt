@@ -23,8 +23,9 @@ ghost use mathlib.Core.Path.{_≡_};
 ghost use Rattle.base.specs.Told.{Tells};
 ghost use Rattle.session.specs.Answers.{steppedTold, outcomeTold};
 ghost use Rattle.session.specs.Outcome.{openedWith, outcome, isEnded};
+ghost use Rattle.session.specs.Guard.{phaseStep};
 ghost use Rattle.session.specs.Step.{stepOf, closedOf};
-ghost use Rattle.host.specs.Host.{opening, phaseStep};
+ghost use Rattle.host.specs.Host.{opening};
 
 // A session, opened with a mode, a command or none, and a backend.
 pub fn open(mode: SaharaMode, command: ExecCommand, backend: QdlBackend) -> Session
@@ -64,7 +65,7 @@ pub fn phase_step(
         Phase::Table(x) => table_step(s, x, delivery, table, reply, out),
         Phase::Between(k, i) => between_step(s, k, i, names, table, reply, out),
         Phase::Region(k, x) => region_step(s, k, x, delivery, table, reply, out),
-        Phase::Ended(k) => {
+        Phase::Ended(_) => {
             if out.len() < 48 {
                 return untouched(s, 3);
             }

@@ -1,6 +1,6 @@
 -- Laws of tests: two that say the same are equal, and what the answer about a packet's length says of it. Assumes nothing.
 use mathlib.Core.Path.{_≡_, refl, sym, _∙_}
-use mathlib.Core.Bool.{Bool, true, false}
+use mathlib.Core.Bool.{Bool, true, false, not, _&&_, _||_}
 use mathlib.Core.Logic.{⊎-elim}
 use Prim.Native.Nat.{ℕ, _<_, _≤_}
 use native.Mathlib.Omega.{arith}
@@ -23,3 +23,16 @@ good-length false h = refl
 pub refused-length : (b : Bool) (why : ℕ) → pick b (L.Refused 5) L.Good ≡ L.Refused why → b ≡ true
 refused-length true why h = refl
 refused-length false why h = let z : _≡_ {A = ℕ} 0 1 = cc in absurd (omega arith)
+
+-- four tests one after the other: each answer is that of the first that holds
+pub no-entry : {a b : Bool} (c d : Bool) → a ≡ false → b ≡ true → true ≡ (a || b || c || d)
+no-entry c d ha hb = simp (ha, hb)
+
+pub too-much : {a b c : Bool} (d : Bool) → a ≡ false → b ≡ false → c ≡ true → true ≡ (a || b || c || d)
+too-much d ha hb hc = simp (ha, hb, hc)
+
+pub none-yet : {a b c z : Bool} (d : Bool) → a ≡ false → b ≡ false → c ≡ false → z ≡ true → false ≡ (a || b || c || (not z && d))
+none-yet d ha hb hc hz = simp (ha, hb, hc, hz)
+
+pub to-its-end : {a b c z d : Bool} → a ≡ false → b ≡ false → c ≡ false → z ≡ false → d ≡ (a || b || c || (not z && d))
+to-its-end ha hb hc hz = simp (ha, hb, hc, hz)

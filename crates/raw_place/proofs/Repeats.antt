@@ -25,13 +25,13 @@ use Rattle.region_phase.specs.declared.Advance.{Advance}
 use Rattle.region_phase.specs.declared.Advance.the-variants as D
 use Rattle.region_phase.specs.Advance.{Advanced, advanced, advanceWithin, advanceOf, onAdvance}
 use Rattle.region_phase.proofs.Laws.{advance-is}
-use Rattle.host.specs.Host.{phaseStep}
+use Rattle.session.specs.Guard.{phaseStep}
 use Rattle.waiting.specs.Wanted.{wantedIn}
 use Rattle.raw.specs.declared.RawSession.{RawSession}
 use Rattle.raw.specs.Raw.{openingOf, isOpening, widthOf, isWidth, regionIn, phaseOf, noRegion, isPhase, rawOf, sessionOf, isSession, toldOf, steppedAt, rawStepped}
 use Rattle.raw.proofs.Laws.{raw-back}
-use Rattle.raw_step.specs.RawStep.{rawOutcome, rawOutcomeOf, rawAt, stepRaw, waitsAt, wantedRaw}
-use Rattle.raw_place.specs.Place.{inRegion, regionAt, countedAt}
+use Rattle.in_place.specs.Place.{rawAt, waitsAt, inRegion, regionAt, countedAt}
+use Rattle.raw_step.specs.RawStep.{rawOutcome, rawOutcomeOf, stepRaw, wantedRaw}
 use Rattle.raw_step.proofs.Laws.{step-formed, wanted-is}
 
 -- ---- numbers of a session in a region

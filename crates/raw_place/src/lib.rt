@@ -3,91 +3,33 @@
 use bundle::Checked;
 use bundle::check_images;
 use bundle::check_names;
+use in_place::BACKEND;
+use in_place::COMMAND;
+use in_place::COUNT;
+use in_place::MODE;
+use in_place::PHASE;
+use in_place::READS;
+use in_place::REGION;
+use in_place::WIDTH;
+use in_place::count;
+use in_place::in_region;
+use in_place::placed;
+use in_place::region_at;
+use in_place::waits_at;
 use raw::RawPlaced;
 use raw::RawSession;
-use raw::RawTold;
-use raw::bit;
 use raw::told;
-use raw_step::AT;
-use raw_step::BACKEND;
-use raw_step::BASE;
-use raw_step::COMMAND;
-use raw_step::COUNT;
-use raw_step::DONE;
-use raw_step::DUE;
-use raw_step::IS_DUE;
-use raw_step::LEN;
-use raw_step::MODE;
-use raw_step::OUTSTANDING;
-use raw_step::PHASE;
-use raw_step::READS;
-use raw_step::REGION;
-use raw_step::WIDTH;
 use region_phase::Advance;
 use region_phase::advance_region;
 use session::Answer;
-use session::Counted;
-use session::Region;
 ghost use mathlib.Core.Path.{_≡_};
 ghost use mathlib.Core.Bool.{true, false};
 ghost use Rattle.base.specs.Choice.{pick};
 ghost use Rattle.bundle.specs.Bundle.{wellFormed};
-ghost use Rattle.raw.specs.Raw.{toldOf, steppedAt, toldIn};
-ghost use Rattle.raw_step.specs.RawStep.{rawOutcome, stepRaw, rawAt, waitsAt, wantedRaw};
-ghost use Rattle.raw_place.specs.Place.{inRegion, readyAt, regionAt, countedAt};
-
-// The numbers of a region's step, and what is told. Those that stay are given back as they are, which the compiler leaves out.
-fn count(numbers: &mut [u64; 9], c: Counted) -> RawTold
-    ensures { λ r. ⌜ (r ≡ toldOf (c .taken) (c .answer)) × (now (numbers .exit) ≡ countedAt (now (numbers .entry)) c) ⌝ }
-{
-    let x = c.region;
-    let answer = c.answer;
-    let count = numbers[COUNT];
-    let at = numbers[AT];
-    let base = numbers[BASE];
-    let len = numbers[LEN];
-    let width = numbers[WIDTH];
-    *numbers = [
-        c.reads,
-        count,
-        at,
-        base,
-        len,
-        x.done,
-        x.outstanding,
-        bit(x.due),
-        width,
-    ];
-    told(c.taken, answer)
-}
-
-// The numbers of a session in a region.
-fn in_region(head: &[u32; 4], numbers: &[u64; 9]) -> bool
-    ensures { λ r. ⌜ r ≡ inRegion (now (head .entry)) (now (numbers .entry)) ⌝ }
-{
-    if head[PHASE] == REGION {
-        if numbers[DUE] < 2 {
-            if raw::is_width(numbers[WIDTH]) {
-                return raw::is_opening(head[MODE], head[COMMAND], head[BACKEND]);
-            }
-        }
-    }
-    false
-}
-
-// The region that the numbers tell.
-fn region_at(numbers: &[u64; 9]) -> Region
-    ensures { λ r. ⌜ r ≡ regionAt (now (numbers .entry)) ⌝ }
-{
-    Region {
-        entry: numbers[AT] as usize,
-        base: numbers[BASE],
-        len: numbers[LEN],
-        done: numbers[DONE],
-        outstanding: numbers[OUTSTANDING],
-        due: numbers[DUE] == IS_DUE,
-    }
-}
+ghost use Rattle.raw.specs.Raw.{steppedAt, toldIn};
+ghost use Rattle.in_place.specs.Place.{rawAt, waitsAt};
+ghost use Rattle.raw_step.specs.RawStep.{rawOutcome, stepRaw, wantedRaw};
+ghost use Rattle.raw_place.specs.Place.{readyAt};
 
 // The image set and the names are well formed.
 fn formed(set: &[u8], names: &[u8]) -> bool
@@ -110,30 +52,6 @@ fn ready(head: &[u32; 4], numbers: &[u64; 9], set: &[u8], names: &[u8]) -> bool
         return formed(set, names);
     }
     false
-}
-
-// The bytes that are outstanding and wait for no empty read.
-fn waits_at(numbers: &[u64; 9]) -> u64
-    ensures { λ r. ⌜ r ≡ waitsAt (now (numbers .entry)) ⌝ }
-{
-    if numbers[DUE] == IS_DUE {
-        0
-    } else {
-        numbers[OUTSTANDING]
-    }
-}
-
-// What a step told, and the bytes that the next one waits for.
-fn placed(t: RawTold, numbers: &[u64; 9]) -> RawPlaced
-    ensures { λ r. ⌜ (toldIn r ≡ t) × (r .waits ≡ waitsAt (now (numbers .entry))) ⌝ }
-{
-    RawPlaced {
-        taken: t.taken,
-        first: t.first,
-        second: t.second,
-        answer: t.answer,
-        waits: waits_at(numbers),
-    }
 }
 
 // A step with the session in place: mode, command, backend and phase; reads, count, at, base, len, done, outstanding, due and width; the window. In a region,
@@ -219,5 +137,5 @@ pub fn wanted_in_place(head: &[u32; 4], numbers: &[u64; 9], window: &[u8; 48]) -
         }
         return 0;
     }
-    wanted(raw_step::raw_at(head, numbers, window))
+    wanted(in_place::raw_at(head, numbers, window))
 }

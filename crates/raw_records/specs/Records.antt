@@ -8,8 +8,8 @@ use Rattle.bundle.specs.declared.Checked.the-variants as C
 use Rattle.build.specs.declared.Built.{Built}
 use Rattle.build.specs.declared.Built.the-variants as T
 use Rattle.entry.specs.declared.EntryAt.{EntryAt}
-use Rattle.forecast.specs.declared.Foreseen.{Foreseen}
-use Rattle.forecast.specs.declared.Foreseen.the-variants as F
+use Rattle.forecast_sums.specs.declared.Foreseen.{Foreseen}
+use Rattle.forecast_sums.specs.declared.Foreseen.the-variants as F
 use Rattle.image.specs.declared.ImageRange.{ImageRange}
 use Rattle.image.specs.declared.ImageRange.the-variants as R
 use Rattle.sheet.specs.declared.Sheet.{Sheet}

@@ -3,7 +3,7 @@
 use build::Built;
 use bundle::Checked;
 use entry::EntryAt;
-use forecast::Foreseen;
+use forecast_sums::Foreseen;
 use image::ImageRange;
 use sheet::Sheet;
 use tidied::Tidied;

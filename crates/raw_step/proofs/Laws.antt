@@ -12,9 +12,9 @@ use Rattle.session.specs.declared.Phase.{Phase}
 use Rattle.session.specs.declared.Session.{Session}
 use Rattle.session.specs.Outcome.{untouched}
 use Rattle.session.specs.Step.{stepOf, closedOf}
-use Rattle.host.specs.Host.{phaseStep}
+use Rattle.session.specs.Guard.{phaseStep}
 use Rattle.waiting.specs.Wanted.{wantedOf}
-use Rattle.host.proofs.Laws.{step-1, step-2, step-phase}
+use Rattle.session.proofs.Parts.{step-1, step-2, step-phase}
 use Rattle.raw.specs.declared.RawSession.{RawSession}
 use Rattle.raw.specs.declared.RawStepped.{RawStepped}
 use Rattle.raw.specs.Raw.{rawOf, phaseOf, sessionOf, isSession, rawStepped, refusedRaw}

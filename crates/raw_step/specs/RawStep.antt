@@ -4,8 +4,8 @@
 use Prim.Native.Nat.{ℕ}
 use mathlib.Core.Bool.{true, false, not}
 use mathlib.Core.List.{List}
-use lib.Dec.{ltb, eqb}
-use lib.ListN.{length, getD}
+use lib.Dec.{ltb}
+use lib.ListN.{length}
 use Rattle.base.specs.Choice.{pick}
 use Rattle.bundle.specs.Bundle.{wellFormed}
 use Rattle.session.specs.Outcome.{Outcome}
@@ -14,6 +14,7 @@ use Rattle.waiting.specs.Wanted.{wantedOf}
 use Rattle.raw.specs.declared.RawSession.{RawSession}
 use Rattle.raw.specs.declared.RawStepped.{RawStepped}
 use Rattle.raw.specs.Raw.{sessionOf, isSession, rawStepped, refusedRaw}
+pub use Rattle.in_place.specs.Place.{rawAt}
 
 -- a step's whole outcome, as numbers
 pub record RawOutcome : Type 0 where
@@ -36,31 +37,6 @@ noSession set names o = pick (not (wellFormed true set)) 1 (pick (not (wellForme
 unfoldable pub stepRaw : RawSession → List ℕ → List ℕ → List ℕ → List ℕ → List ℕ → List ℕ → RawOutcome
 stepRaw r d set names t y o =
     pick (isSession r) (rawOutcomeOf (stepOf (sessionOf r) d set names t y o)) (rawOutcome (refusedRaw r (noSession set names o)) t y o)
-
--- a session in place: mode, command, backend and phase; the nine large numbers; the window
-abbrev pub rawAt : List ℕ → List ℕ → List ℕ → RawSession
-rawAt h n w =
-    record {
-      mode = getD h 0 0;
-      command = getD h 1 0;
-      backend = getD h 2 0;
-      phase = getD h 3 0;
-      reads = getD n 0 0;
-      count = getD n 1 0;
-      at = getD n 2 0;
-      base = getD n 3 0;
-      len = getD n 4 0;
-      done = getD n 5 0;
-      outstanding = getD n 6 0;
-      due = getD n 7 0;
-      width = getD n 8 0;
-      window = w;
-    }
-
--- of the large numbers, the bytes that are outstanding (number 6) and wait for no empty read (number 7): of a session in a region (phase 5) what it wants, of
--- any other session 0 (`waits-wanted` of raw_place/proofs/Repeats). Of numbers that are no session's it is the same two, whatever they are
-abbrev pub waitsAt : List ℕ → ℕ
-waitsAt n = pick (eqb (getD n 7 0) 1) 0 (getD n 6 0)
 
 -- the channel's end. No buffer is lent here, and what is no session cannot be ended: 18
 unfoldable pub closedRaw : RawSession → RawStepped

@@ -3,8 +3,11 @@
 use mathlib.Core.Path.{_≡_, refl, sym, ap}
 use mathlib.Core.Bool.{Bool, true, false, not, _&&_, _||_, true≢false}
 use mathlib.Core.List.{List}
-use Prim.Native.Nat.{ℕ, _+_, _^_, _<_, _≤_}
+use Prim.Native.Nat.{ℕ, _+_, _*_, _^_, _<_, _≤_}
+use native.Mathlib.Nat.{le-div-iff-mul-le}
 use native.Mathlib.Omega.{arith}
+use mir.Val.{Fits}
+use mir.Syntax.{w64}
 use borrow.Author.Tests.{ltb-false, leb-false, ne-eqb}
 use lib.Dec.{ltb, leb, eqb}
 use lib.ListN.{length}
@@ -18,7 +21,7 @@ use Rattle.session.specs.declared.Region.{Region}
 use Rattle.session.specs.declared.Session.{Session}
 use Rattle.session.specs.declared.Counted.{Counted}
 use Rattle.session.specs.Outcome.{Outcome}
-use Rattle.entry.specs.Entry.{entriesIn}
+use Rattle.entry.specs.Entry.{entrySize, entriesIn}
 use Rattle.session.specs.RegionPhase.{asksFor, nextChunk, askOf, handOf, regionOf}
 use Rattle.session.specs.Limits.{regionLimit}
 use Rattle.session.specs.Guard.{regionStep}
@@ -107,6 +110,27 @@ module _ (v : Width) (u : Opening) (m : ℕ) (x : Region) (n : ℕ) (o : List �
   advance-still k t q =
       by-test (ltb (length o) 48) (λ e. left (rw e at q))
       (λ e. by-test (ltb (2 ^ 63 + 1) m || regionLimit (fieldSize v) k x t) (λ l. left (rw (e, l) at q)) (λ l. within-still (rw (e, l) at q)))
+
+-- what a region's step comes to is told apart
+pub refused≢begins : (why : ℕ) → D.Refused why ≡ D.Begins → ⊥
+refused≢begins why q = let z : _≡_ {A = ℕ} 0 1 = cc in omega arith
+
+pub refused≢closes : (why : ℕ) → D.Refused why ≡ D.Closes → ⊥
+refused≢closes why q = let z : _≡_ {A = ℕ} 0 1 = cc in omega arith
+
+pub begins≢to : (c : Counted) → D.Begins ≡ D.To c → ⊥
+begins≢to c q = let z : _≡_ {A = ℕ} 0 1 = cc in omega arith
+
+-- the entry behind one of the table's has a number
+pub next-fits : (f k i : ℕ) → i < entriesIn f k → Fits w64 k → i + 1 < 2 ^ 64
+next-fits f k i h w =
+    let n : ℕ = entrySize f in
+    let q : (i + 1) * n ≤ k = le-div-iff-mul-le {k = n} (omega arith) .0 (omega arith) in
+    omega arith
+
+-- nothing is done or outstanding, so nothing is done
+pub none-done : (done outstanding : ℕ) → done + outstanding ≡ 0 → done ≡ 0
+none-done done outstanding e = omega arith
 
 -- what is not refused has room, and every count is within its limit
 pub record Passed (v : Width) (m k : ℕ) (x : Region) (t o : List ℕ) : Type 0 where

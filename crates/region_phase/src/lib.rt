@@ -1,7 +1,6 @@
 // The phase in a region of a dump: chunk by chunk it is asked for and handed out, then closed.
 use build::read_size;
 use build::sahara_send_mem_read;
-use chunk::chunk_size;
 use chunk::due_after;
 use entry::entry_at;
 use field::Width;
@@ -10,13 +9,16 @@ use filename::check_after_open;
 use limits::past_memory;
 use limits::reads_limit;
 use limits::region_limit;
+use region_counts::asks_for;
+use region_counts::hands_out;
+use region_counts::past_end;
+use region_counts::recount;
 use session::Answer;
 use session::Counted;
 use session::Phase;
 use session::Region;
 use session::Session;
 use session::Stepped;
-use turn::least;
 use turn::moved;
 use turn::untouched;
 use verdict::Opening;
@@ -31,7 +33,7 @@ ghost use Rattle.filename.specs.Filename.{afterOpenCheck};
 ghost use Rattle.base.specs.Told.{Tells};
 ghost use Rattle.session.specs.Answers.{outcomeTold};
 ghost use Rattle.session.specs.Outcome.{gives, outcome};
-ghost use Rattle.session.specs.RegionPhase.{recounted, askedOf, askedOut, handedOf, countedIn, closes, pastEnd, begunOf, nameIn};
+ghost use Rattle.session.specs.RegionPhase.{askedOf, askedOut, handedOf, countedIn, closes, begunOf, nameIn};
 ghost use Rattle.session.specs.Guard.{regionStep};
 ghost use Rattle.region_phase.specs.Advance.{advanced, advanceWithin, advanceOf};
 
@@ -47,32 +49,17 @@ pub enum Advance {
 
 // ---- over the counts
 
-// The region with other counts.
-fn recount(x: Region, done: u64, outstanding: u64, due: bool) -> Region
-    ensures { λ r. ⌜ r ≡ recounted x done outstanding due ⌝ }
-{
-    Region {
-        entry: x.entry,
-        base: x.base,
-        len: x.len,
-        done,
-        outstanding,
-        due,
-    }
-}
-
 // No bytes are outstanding and some are left: the next memory read.
 fn ask(width: Width, opening: Opening, reads: u64, x: Region, out: &mut [u8]) -> Counted
     requires { ⌜ (48 ≤ length (now out)) × (x .done < x .len) × (x .base + x .len ≤ 256 ^ fieldSize width) × (reads ≤ 2 ^ 63 + 1) ⌝ }
     ensures { λ r. ⌜ (r ≡ askedOf width opening reads x) × (now (out .exit) ≡ askedOut width opening x (now (out .entry))) ⌝ }
 {
-    let most = chunk_size(opening);
-    let rest = (x.len - x.done) as usize;
-    let n = least(most, rest) as u64;
+    let n = asks_for(opening, x);
     sahara_send_mem_read(out, width, x.base + x.done, n);
+    let count = reads + 1;
     Counted {
         region: recount(x, x.done, n, false),
-        reads: reads + 1,
+        reads: count,
         taken: 0,
         answer: Answer::Send(read_size(width)),
     }
@@ -83,15 +70,14 @@ fn hand_out(opening: Opening, reads: u64, x: Region, came: usize) -> Counted
     requires { ⌜ x .done + x .outstanding ≤ x .len ⌝ }
     ensures { λ r. ⌜ r ≡ handedOf opening reads x came ⌝ }
 {
-    let n = least(x.outstanding as usize, came);
-    let left = x.outstanding - n as u64;
-    let done = x.done + n as u64;
-    let due = due_after(opening, left, done);
+    let h = hands_out(x, came);
+    let done = x.done + h.taken as u64;
+    let due = due_after(opening, h.left, done);
     Counted {
-        region: recount(x, done, left, due),
+        region: recount(x, done, h.left, due),
         reads,
-        taken: n,
-        answer: Answer::Bytes(n),
+        taken: h.taken,
+        answer: Answer::Bytes(h.taken),
     }
 }
 
@@ -197,16 +183,6 @@ fn close(s: Session, k: usize, x: Region) -> Stepped
 {
     let entry = x.entry;
     moved(s, Phase::Between(k, entry + 1), 0, Answer::Close(entry))
-}
-
-// What a region that ends behind the memory is refused with.
-fn past_end(width: Width) -> u8
-    ensures { λ r. ⌜ r ≡ pastEnd width ⌝ }
-{
-    match width {
-        Width::Bits32 => 24,
-        Width::Bits64 => 22,
-    }
 }
 
 // The step after open, by the entry's name, then its end: 21, then 22 or 24.

@@ -1,5 +1,5 @@
 -- A phase of a step by itself, for a session in any state: 3, then 18, then the phase. The phases of the step are functions of their own with these
--- contracts. In the step 1 and 2 stand before 3, and 4 stands between 3 and 18: it is a phase of its own, the ended one, so none of these gives it.
+-- contracts. In the step 1 and 2 stand before 3, and 4 stands between 3 and 18: it is a phase of its own, the ended one, and no other gives it.
 use mathlib.Core.Bool.{Bool, _||_}
 use mathlib.Core.List.{List}
 use Prim.Native.Nat.{ℕ}
@@ -44,3 +44,15 @@ betweenStep s k i names t y o = guarded s (P.Between k i) t y o (outcome (betwee
 
 unfoldable pub regionStep : Session → ℕ → Region → List ℕ → List ℕ → List ℕ → List ℕ → Outcome
 regionStep s k x d t y o = guarded s (P.Region k x) t y o (regionOf s k x d t y o)
+
+-- a step behind 1 and 2, for a session as if it were in the phase p: the session, a delivery, image set, names, table, reply and out buffers, and p.
+-- `step-phase` of proofs/Parts: for the session's own phase it is the step
+module _ (s : Session) (d set names t y o : List ℕ) where
+  abbrev pub phaseStep : Phase → Outcome
+  phaseStep (P.Packet h) = packetStep s h d set t y o
+  phaseStep (P.Response x) = responseStep s x d t y o
+  phaseStep (P.Switched k) = switchedStep s k t y o
+  phaseStep (P.Table x) = tableStep s x d t y o
+  phaseStep (P.Between k i) = betweenStep s k i names t y o
+  phaseStep (P.Region k x) = regionStep s k x d t y o
+  phaseStep (P.Ended k) = pick (ltb (length o) 48) (untouched s 3 t y o) (untouched s 4 t y o)

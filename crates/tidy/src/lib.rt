@@ -6,18 +6,21 @@ use bundle::check_images;
 use bundle::slot_at;
 use copy::copy_into;
 use field::put_u32;
-use field::u32_padded;
+use slot_sizes::MOST;
+use slot_sizes::data_size;
+use slot_sizes::size_at;
+use slot_sizes::slot_count;
+use slot_sizes::start_at;
 use tidied::Tidied;
 ghost use mathlib.Core.Path.{_≡_};
 ghost use mathlib.Core.List.{map};
-ghost use Prim.Native.Nat.{_+_, _*_, _≤_, min};
+ghost use Prim.Native.Nat.{_+_, _*_, _≤_};
 ghost use lib.ListN.{length};
 ghost use lib.Seq.{sets};
 ghost use Rattle.base.specs.Told.{Tells};
-ghost use Rattle.bundle.specs.Bundle.{countOf};
 ghost use Rattle.field.specs.Field.{words};
 ghost use Rattle.bundle.specs.Content.{bytesIn, sizeIn, contentOf};
-ghost use Rattle.writer.specs.Writer.{dataOf, startFor, startsFrom, bundleBytes, mostData};
+ghost use Rattle.writer.specs.Writer.{dataOf, startsFrom, bundleBytes, mostData};
 ghost use Rattle.tidied.specs.Tidy.{
   firstContents,
   tidyLenOf,
@@ -26,58 +29,6 @@ ghost use Rattle.tidied.specs.Tidy.{
   tidyOutcome,
   tidyTold,
 };
-
-// The most data bytes.
-const MOST: usize = 0xFFFFFFFE;
-
-// The start of an absent slot.
-const ABSENT: u32 = 0xFFFFFFFF;
-
-// The bytes of slot i: how many.
-fn size_at(set: &[u8], i: usize) -> usize
-    ensures { λ r. ⌜ r ≡ sizeIn (contentOf (now (set .entry)) i) ⌝ }
-{
-    match slot_at(set, SlotNumber(i)) {
-        Slot::At(_, size) => size,
-        Slot::Absent => 0,
-        Slot::Missing => 0,
-    }
-}
-
-// The start of slot i behind so many bytes of data.
-fn start_at(set: &[u8], i: usize, before: u32) -> u32
-    ensures { λ r. ⌜ r ≡ startFor before (contentOf (now (set .entry)) i) ⌝ }
-{
-    match slot_at(set, SlotNumber(i)) {
-        Slot::At(_, _) => before,
-        Slot::Absent => ABSENT,
-        Slot::Missing => ABSENT,
-    }
-}
-
-// The slots of a set: how many.
-fn slot_count(set: &[u8]) -> usize
-    ensures { λ r. ⌜ r ≡ countOf (now (set .entry)) ⌝ }
-{
-    u32_padded(set, 0) as usize
-}
-
-// The data bytes of the first n slots: how many, and of too many one more than the most.
-fn data_size(set: &[u8], n: usize) -> usize
-    ensures { λ r. ⌜ r ≡ min (mostData + 1) (length (dataOf (firstContents (now (set .entry)) n))) ⌝ }
-{
-    let mut total: usize = 0;
-    let mut i: usize = 0;
-    while i < n {
-        let size = size_at(set, i);
-        if MOST - total < size {
-            return MOST + 1;
-        }
-        total += size;
-        i += 1;
-    }
-    total
-}
 
 // How long the tidy form of a set is.
 pub fn tidy_len(set: &[u8]) -> Tidied

@@ -3,6 +3,3 @@ pub mod Range
 pub mod Verdict
 pub mod Step
 pub mod Theorem
-pub mod Raw
-pub mod Example
-pub mod Unread

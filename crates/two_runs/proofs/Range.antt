@@ -1,12 +1,13 @@
--- An image range by what its slot holds: where it starts aside, the slot's presence and length decide the answer, and its bytes are those that the read covers.
--- Assumes nothing.
+-- An image range by what its slot holds: where it starts aside, the slot's presence and length decide the answer, and its bytes are just those that the read
+-- covers, none where it is refused. By the slot and the range's test. Assumes nothing.
 use mathlib.Core.Path.{_≡_, refl, sym, ap, _∙_}
+use mathlib.Core.Bool.{Bool, true, false}
 use mathlib.Core.List.{List, []}
 use mathlib.Core.Option.{Option, none, some}
 use Prim.Native.Nat.{ℕ, _+_}
 use borrow.Author.Tests.{leb-true}
 use lib.Dec.{leb}
-use lib.ListN.{take, drop}
+use lib.ListN.{length, take, drop}
 use Rattle.base.specs.Choice.{pick}
 use Rattle.base.proofs.Lists.{part-of-part}
 use Rattle.base.proofs.Ranges.{by-test}
@@ -18,7 +19,7 @@ use Rattle.bundle.proofs.Laws.{length-there}
 use Rattle.image.specs.Image.{slotFor, rangeIn, rangeUnjudged}
 use Rattle.image.specs.declared.ImageRange.{ImageRange}
 use Rattle.image.specs.declared.ImageRange.the-variants as R
-use Rattle.two_runs.specs.Alike.{shapeIn, SameShape, imageRead, coveredIn, covered}
+use Rattle.two_runs.specs.Alike.{shapeIn, SameShape, coveredIn}
 
 -- where it starts aside
 abbrev pub rangeAside : ImageRange → ImageRange
@@ -29,6 +30,19 @@ rangeAside (R.Refused why) = R.Refused why
 abbrev pub rangeBytes : List ℕ → ImageRange → List ℕ
 rangeBytes set (R.At x k) = take k (drop x set)
 rangeBytes set (R.Refused why) = []
+
+-- ---- what a read covers of an image: none where it is refused, and else the bytes that it asks for
+
+-- where a test fails, none of what it stands before
+none-of : (b : Bool) (s : List ℕ) → b ≡ false → pick b s [] ≡ []
+none-of b s t = simp t
+
+module _ (s : List ℕ) (offset len : ℕ) where
+  covers-none : leb (offset + len) (length s) ≡ false → coveredIn (some s) offset len ≡ []
+  covers-none t = none-of (leb (offset + len) (length s)) _ t
+
+  covers-within : leb (offset + len) (length s) ≡ true → coveredIn (some s) offset len ≡ take len (drop offset s)
+  covers-within t = simp t
 
 -- ---- of one set
 
@@ -45,17 +59,16 @@ module _ (set : List ℕ) (i offset len : ℕ) where
       by Absent e = refl
       by Missing e = refl
 
-  range-covered : rangeBytes set (rangeIn (slotOf set i) offset len) ≡ coveredIn (contentOf set i) offset len
+  pub range-covered : rangeBytes set (rangeIn (slotOf set i) offset len) ≡ coveredIn (contentOf set i) offset len
   range-covered = by (slotOf set i) refl
     where
       by : (x : Slot) → slotOf set i ≡ x → rangeBytes set (rangeIn x offset len) ≡ coveredIn (contentAt set x) offset len
       by (At start size) e =
-          rw
-          (length-there set i start size e)
-          (by-test
-          (leb (offset + len) size)
-          (λ t. rw t (sym (part-of-part offset len size start set (leb-true _ _ t))))
-          (λ t. rw t refl))
+          let s : List ℕ = take size (drop start set) in
+          let m : length s ≡ size = length-there set i start size e in
+          by-test (leb (offset + len) size)
+          (λ t. rw t (sym (part-of-part offset len size start set (leb-true _ _ t)) ∙ sym (covers-within s offset len (rw m t))))
+          (λ t. rw t (sym (covers-none s offset len (rw m t))))
       by Absent e = refl
       by Missing e = refl
 
@@ -69,7 +82,3 @@ module _ (a b : List ℕ) (same : SameShape a b) (id offset len : ℕ) where
       range-shaped a (slotFor (countOf a) id) offset len
       ∙ ap (λ (x : Option ℕ). rangeShaped x offset len) e
       ∙ sym (range-shaped b (slotFor (countOf b) id) offset len)
-
-  pub ranges-bytes : covered a (some (imageRead id offset len)) ≡ covered b (some (imageRead id offset len))
-      → rangeBytes a (rangeUnjudged a id offset len) ≡ rangeBytes b (rangeUnjudged b id offset len)
-  ranges-bytes h = range-covered a (slotFor (countOf a) id) offset len ∙ h ∙ sym (range-covered b (slotFor (countOf b) id) offset len)

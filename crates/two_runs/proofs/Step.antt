@@ -1,10 +1,10 @@
--- A step that judges a packet does what the verdict on it asks for. And one step with two image sets of one shape that agree on what it covers is seen alike, whatever
--- the session and all else that it is lent: a step looks at its set in the check (1) and in the verdict on a packet, and no other answer is an image. By the branches of
--- a step. Assumes nothing.
+-- A step that judges a packet does what the verdict on it asks for. And one step with two image sets of one shape that agree on what it covers is seen
+-- alike, whatever the session and all else that it is lent: a step looks at its set in the check (1) and in the verdict on a packet, and no other answer is
+-- an image. By the branches of a step. Assumes nothing.
 use mathlib.Core.Path.{_≡_, refl, sym, ap, _∙_}
 use mathlib.Core.Bool.{Bool, true, false, not}
 use mathlib.Core.List.{List, [], _∷_}
-use mathlib.Core.Option.{none, Option·none-ne-some, Option·some-injective}
+use mathlib.Core.Option.{none, some, Option·none-ne-some, Option·some-injective}
 use Prim.Native.Nat.{ℕ, _+_, _-_, _^_, min}
 use borrow.Author.Tests.{ltb-false, not-false}
 use lib.Dec.{eqb, ltb, leb}
@@ -59,7 +59,8 @@ module _ (s : Session) (d set names t y o p : List ℕ) (j : Judges s d set name
       let h : ℕ = j .held in
       let a = by-else (ltb (h + length d) 8) none _ (Option·none-ne-some p) (j .whole) in
       let b = by-else (badLength (lengthField (keep (s .window) h d))) none _ (Option·none-ne-some p) (a .1) in
-      let c = by-else (ltb (h + taken) (lengthField (keep (s .window) h d))) none _ (Option·none-ne-some p) (b .1) in
+      let c =
+      by-else (ltb (h + taken) (lengthField (keep (s .window) h d))) none (some (take (lengthField window) window)) (Option·none-ne-some p) (b .1) in
       let e : take (lengthField window) window ≡ p = Option·some-injective _ p (c .1) in
       step-is-phase s set names t y o (j .order) d
       ∙ ap (λ (q : Phase). onPhase s q d set names t y o) (j .phase)
@@ -164,22 +165,29 @@ module _ (a b : List ℕ) (wa : wellFormed true a ≡ true) (wb : wellFormed tru
   abbrev Both : Outcome → Outcome → Type 0
   Both r q = look s d t y o a r ≡ look s d t y o b q
 
-  packet-alike : (h : ℕ) → s .phase ≡ P.Packet h → InOrder s a names t y o → Both (packetOf s h d a t y o) (packetOf s h d b t y o)
-  unfolding packetOf sizedOf wholeOf madeWhole
-  packet-alike h e i =
-      let k : List ℕ = keep (s .window) h d in
-      let n : ℕ = min (lengthField k - h) (length d) in
-      let w : List ℕ = keep (s .window) h (take n d) in
+  whole-alike : (n : ℕ) (w : List ℕ) → Judges s d a names t y o (take (lengthField w) w) → Both (wholeOf s n w a t y o) (wholeOf s n w b t y o)
+  unfolding wholeOf
+  whole-alike n w j =
       let p : List ℕ = take (lengthField w) w in
-      split-two Both (ltb (h + length d) 8) (λ x. refl)
-      (λ x.
-      split-two Both (badLength (lengthField k)) (λ q. refl)
-      (λ q.
-      split-two Both (ltb (h + n) (lengthField k)) (λ z. refl)
-      (λ z.
-      let j : Judges s d a names t y o p = record { order = i; held = h; phase = e; whole = rw (x, q, z) refl } in
       acted-alike s d t y o n w a b (verdictOf (s .opening) a (length t) (length y) p) (verdictOf (s .opening) b (length t) (length y) p)
-      (verdict-alike a b same (s .opening) (length t) (length y) p (agree p j)))))
+      (verdict-alike a b same (s .opening) (length t) (length y) p (agree p j))
+
+  module _ (h : ℕ) (e : s .phase ≡ P.Packet h) (i : InOrder s a names t y o) where
+    abbrev size : ℕ
+    size = lengthField (keep (s .window) h d)
+
+    sized-alike : ltb (h + length d) 8 ≡ false → Both (sizedOf s h d size a t y o) (sizedOf s h d size b t y o)
+    unfolding sizedOf madeWhole
+    sized-alike x =
+        let n : ℕ = min (size - h) (length d) in
+        split-two Both (badLength size) (λ q. refl)
+        (λ q.
+        split-two Both (ltb (h + n) size) (λ z. refl)
+        (λ z. whole-alike n (keep (s .window) h (take n d)) (record { order = i; held = h; phase = e; whole = rw (x, q, z) refl })))
+
+    packet-alike : Both (packetOf s h d a t y o) (packetOf s h d b t y o)
+    unfolding packetOf
+    packet-alike = split-two Both (ltb (h + length d) 8) (λ x. refl) (λ x. sized-alike x)
 
   phase-alike : (p : Phase) → s .phase ≡ p → InOrder s a names t y o → Both (onPhase s p d a names t y o) (onPhase s p d b names t y o)
   phase-alike (P.Packet h) e i = packet-alike h e i

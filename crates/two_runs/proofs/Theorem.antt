@@ -1,5 +1,5 @@
--- Two runs that are lent the same but for the image set are alike, where every step is: by the law of related machines, the worlds being the same. So with two sets of
--- one shape that agree on what is read, and so with a set and its tidy form (specs/Claim). Assumes nothing.
+-- Two runs that are lent the same but for the image set are alike, where every step is: by the law of related machines, the worlds being the same. So with
+-- two sets of one shape that agree on what is read, and so with a set and its tidy form (specs/Claim). Assumes nothing.
 use mathlib.Core.Path.{_≡_, refl, sym, ap, _∙_}
 use mathlib.Core.Bool.{true}
 use mathlib.Core.List.{List, [], _∷_, _++_}

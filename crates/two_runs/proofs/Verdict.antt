@@ -1,5 +1,5 @@
--- The verdict on a packet with two image sets of one shape that agree on what the packet covers: it is the same, but for where an image starts, and the image's bytes
--- are. Behind the check (1), the set enters a step here alone. Assumes nothing.
+-- The verdict on a packet: its image's bytes are just what the packet covers. So with two image sets of one shape that agree on that it is the same, but
+-- for where an image starts, and the image's bytes are. By the packet's kind. Behind the check (1), the set enters a step here alone. Assumes nothing.
 use mathlib.Core.Path.{_≡_, refl, sym, ap, _∙_}
 use mathlib.Core.List.{List, []}
 use mathlib.Core.Option.{none, some}
@@ -10,7 +10,7 @@ use Rattle.base.specs.Choice.{pick}
 use Rattle.base.proofs.Ranges.{by-test}
 use Rattle.base.proofs.Tests.{split}
 use Rattle.bundle.specs.Bundle.{countOf}
-use Rattle.image.specs.Image.{rangeUnjudged}
+use Rattle.image.specs.Image.{slotFor, rangeUnjudged}
 use Rattle.image.specs.declared.ImageRange.{ImageRange}
 use Rattle.image.specs.declared.ImageRange.the-variants as R
 use Rattle.packet.specs.Packet.{decodeOf}
@@ -25,7 +25,7 @@ use Rattle.verdict.specs.declared.Opening.{Opening}
 use Rattle.verdict.specs.declared.Verdict.{Verdict}
 use Rattle.verdict.specs.declared.Verdict.the-variants as W
 use Rattle.two_runs.specs.Alike.{SameShape, imageRead, readBy, readIn, covered, coveredOf}
-use Rattle.two_runs.proofs.Range.{rangeAside, rangeBytes, ranges-aside, ranges-bytes}
+use Rattle.two_runs.proofs.Range.{rangeAside, rangeBytes, range-covered, ranges-aside}
 
 -- where an image starts aside
 abbrev pub verdictAside : Verdict → Verdict
@@ -60,75 +60,95 @@ image-bytes : (set : List ℕ) (r : ImageRange) → verdictBytes set (imageFor r
 image-bytes set (R.At x k) = refl
 image-bytes set (R.Refused why) = refl
 
-module _ (a b : List ℕ) (same : SameShape a b) where
-  -- ---- packets that read no image
+-- ---- the bytes of a packet's verdict are those that the packet covers: no more and no fewer, whatever the set
 
-  abbrev Unread : Verdict → Type 0
-  Unread v = verdictBytes a v ≡ verdictBytes b v
+module _ (set : List ℕ) where
+  read-covered : (size len id offset k : ℕ)
+      → verdictBytes set (exactly len size (imageFor (rangeUnjudged set id offset k))) ≡ covered set (pick (eqb len size) (some (imageRead id offset k)) none)
+  read-covered size len id offset k =
+      by-test
+      (eqb len size)
+      (λ t. rw t (image-bytes set (rangeUnjudged set id offset k) ∙ range-covered set (slotFor (countOf set) id) offset k))
+      (λ t. rw t refl)
 
-  plainly : (v : Verdict) → Unread v → VerdictsAlike a b v v
-  plainly v e = record { aside = refl; bytes = e }
+  module _ (u : Opening) (tsize rsize : ℕ) where
+    -- no image's
+    abbrev Bare : Verdict → Type 0
+    Bare v = verdictBytes set v ≡ []
 
-  -- ---- packets that do
+    execute-bare : (c : ExecCommand) → Bare (executeFor c)
+    execute-bare (X.Is c) = refl
+    execute-bare X.None = refl
 
-  read-alike : (size len id offset k : ℕ)
-      → (let r = pick (eqb len size) (some (imageRead id offset k)) none in covered a r ≡ covered b r)
-      → VerdictsAlike a b (exactly len size (imageFor (rangeUnjudged a id offset k))) (exactly len size (imageFor (rangeUnjudged b id offset k)))
-  read-alike size len id offset k h =
+    body-covered : (len : ℕ) (x : SaharaPacketBody) → verdictBytes set (onBody u set tsize rsize len x) ≡ covered set (readBy len x)
+    body-covered len (B.HelloReq x) = split Bare (eqb len 48) (λ t. refl) (λ t. refl)
+    body-covered len (B.HelloResp x) = refl
+    body-covered len (B.ReadReq x) = read-covered 20 len (x .image) (x .offset) (x .len)
+    body-covered len (B.Eoi x) = split Bare (eqb len 16) (λ t. split Bare (eqb (x .status) 0) (λ e. refl) (λ e. refl)) (λ t. refl)
+    body-covered len B.DoneReq = refl
+    body-covered len (B.DoneResp x) = split Bare (eqb (x .status) 1) (λ t. refl) (λ t. split Bare (eqb (countOf set) 1) (λ e. refl) (λ e. refl))
+    body-covered len B.ResetResp = split Bare (eqb len 8) (λ t. refl) (λ t. refl)
+    body-covered len (B.DebugReq x) =
+        split Bare (eqb len 16) (λ t. split Bare (ltb (room tsize) (x .len)) (λ e. refl) (λ e. refl)) (λ t. refl)
+    body-covered len (B.ReadMemReq x) = refl
+    body-covered len B.CommandReady = split Bare (eqb len 8) (λ t. execute-bare (u .command)) (λ t. refl)
+    body-covered len (B.ExecResp x) = split Bare (ltb rsize (x .len)) (λ t. refl) (λ t. refl)
+    body-covered len (B.ExecData x) = refl
+    body-covered len (B.Debug64Req x) =
+        split Bare (eqb len 24) (λ t. split Bare (ltb (room tsize) (x .len)) (λ e. refl) (λ e. refl)) (λ t. refl)
+    body-covered len (B.ReadMem64Req x) = refl
+    body-covered len (B.ReadData64Req x) = read-covered 32 len (x .image) (x .offset) (x .len)
+
+    decoded-covered : (x : Decoded) → verdictBytes set (onDecoded u set tsize rsize x) ≡ covered set (readIn x)
+    decoded-covered (D.Is p) = body-covered (p .len) (p .body)
+    decoded-covered (D.Refused why) = refl
+
+    pub verdict-covered : (p : List ℕ) → verdictBytes set (verdictOf u set tsize rsize p) ≡ coveredOf set p
+    unfolding verdictOf coveredOf
+    verdict-covered p = decoded-covered (decodeOf p)
+
+-- ---- of two sets of one shape the verdicts are the same, where an image starts aside
+
+module _ (a b : List ℕ) (same : SameShape a b) (u : Opening) (tsize rsize : ℕ) where
+  read-aside : (size len id offset k : ℕ)
+      → verdictAside (exactly len size (imageFor (rangeUnjudged a id offset k))) ≡ verdictAside (exactly len size (imageFor (rangeUnjudged b id offset k)))
+  read-aside size len id offset k =
       by-test
       (eqb len size)
       (λ t.
-      let e : covered a (some (imageRead id offset k)) ≡ covered b (some (imageRead id offset k)) = rw t at h in
       rw
       t
-      (record {
-        aside =
-            image-aside (rangeUnjudged a id offset k)
-            ∙ ap imageFor (ranges-aside a b same id offset k)
-            ∙ sym (image-aside (rangeUnjudged b id offset k));
-        bytes =
-            image-bytes a (rangeUnjudged a id offset k)
-            ∙ ranges-bytes a b same id offset k e
-            ∙ sym (image-bytes b (rangeUnjudged b id offset k));
-      }))
-      (λ t. rw t (plainly (W.Refused 11) refl))
+      (image-aside (rangeUnjudged a id offset k)
+      ∙ ap imageFor (ranges-aside a b same id offset k)
+      ∙ sym (image-aside (rangeUnjudged b id offset k))))
+      (λ t. rw t refl)
 
-  -- ---- by the kind
+  body-aside : (len : ℕ) (x : SaharaPacketBody) → verdictAside (onBody u a tsize rsize len x) ≡ verdictAside (onBody u b tsize rsize len x)
+  body-aside len (B.HelloReq x) = refl
+  body-aside len (B.HelloResp x) = refl
+  body-aside len (B.ReadReq x) = read-aside 20 len (x .image) (x .offset) (x .len)
+  body-aside len (B.Eoi x) = refl
+  body-aside len B.DoneReq = refl
+  body-aside len (B.DoneResp x) = rw (same .counts) refl
+  body-aside len B.ResetResp = refl
+  body-aside len (B.DebugReq x) = refl
+  body-aside len (B.ReadMemReq x) = refl
+  body-aside len B.CommandReady = refl
+  body-aside len (B.ExecResp x) = refl
+  body-aside len (B.ExecData x) = refl
+  body-aside len (B.Debug64Req x) = refl
+  body-aside len (B.ReadMem64Req x) = refl
+  body-aside len (B.ReadData64Req x) = read-aside 32 len (x .image) (x .offset) (x .len)
 
-  module _ (u : Opening) (tsize rsize : ℕ) where
-    execute-unread : (c : ExecCommand) → Unread (executeFor c)
-    execute-unread (X.Is c) = refl
-    execute-unread X.None = refl
+  decoded-aside : (x : Decoded) → verdictAside (onDecoded u a tsize rsize x) ≡ verdictAside (onDecoded u b tsize rsize x)
+  decoded-aside (D.Is p) = body-aside (p .len) (p .body)
+  decoded-aside (D.Refused why) = refl
 
-    body-alike : (len : ℕ) (x : SaharaPacketBody) → covered a (readBy len x) ≡ covered b (readBy len x)
-        → VerdictsAlike a b (onBody u a tsize rsize len x) (onBody u b tsize rsize len x)
-    body-alike len (B.HelloReq x) h = plainly _ (split Unread (eqb len 48) (λ t. refl) (λ t. refl))
-    body-alike len (B.HelloResp x) h = plainly (W.Refused 10) refl
-    body-alike len (B.ReadReq x) h = read-alike 20 len (x .image) (x .offset) (x .len) h
-    body-alike len (B.Eoi x) h = plainly _ (split Unread (eqb len 16) (λ t. split Unread (eqb (x .status) 0) (λ e. refl) (λ e. refl)) (λ t. refl))
-    body-alike len B.DoneReq h = plainly (W.Refused 10) refl
-    body-alike len (B.DoneResp x) h =
-        rw
-        (same .counts)
-        (plainly _ (split Unread (eqb (x .status) 1) (λ t. refl) (λ t. split Unread (eqb (countOf b) 1) (λ e. refl) (λ e. refl))))
-    body-alike len B.ResetResp h = plainly _ (split Unread (eqb len 8) (λ t. refl) (λ t. refl))
-    body-alike len (B.DebugReq x) h =
-        plainly _ (split Unread (eqb len 16) (λ t. split Unread (ltb (room tsize) (x .len)) (λ e. refl) (λ e. refl)) (λ t. refl))
-    body-alike len (B.ReadMemReq x) h = plainly (W.Refused 10) refl
-    body-alike len B.CommandReady h = plainly _ (split Unread (eqb len 8) (λ t. execute-unread (u .command)) (λ t. refl))
-    body-alike len (B.ExecResp x) h = plainly _ (split Unread (ltb rsize (x .len)) (λ t. refl) (λ t. refl))
-    body-alike len (B.ExecData x) h = plainly (W.Refused 10) refl
-    body-alike len (B.Debug64Req x) h =
-        plainly _ (split Unread (eqb len 24) (λ t. split Unread (ltb (room tsize) (x .len)) (λ e. refl) (λ e. refl)) (λ t. refl))
-    body-alike len (B.ReadMem64Req x) h = plainly (W.Refused 10) refl
-    body-alike len (B.ReadData64Req x) h = read-alike 32 len (x .image) (x .offset) (x .len) h
-
-    decoded-alike : (x : Decoded) → covered a (readIn x) ≡ covered b (readIn x)
-        → VerdictsAlike a b (onDecoded u a tsize rsize x) (onDecoded u b tsize rsize x)
-    decoded-alike (D.Is p) h = body-alike (p .len) (p .body) h
-    decoded-alike (D.Refused why) h = plainly (W.Refused why) refl
-
-    pub verdict-alike : (p : List ℕ) → coveredOf a p ≡ coveredOf b p
-        → VerdictsAlike a b (verdictOf u a tsize rsize p) (verdictOf u b tsize rsize p)
-    unfolding verdictOf coveredOf
-    verdict-alike p h = decoded-alike (decodeOf p) h
+  pub verdict-alike : (p : List ℕ) → coveredOf a p ≡ coveredOf b p
+      → VerdictsAlike a b (verdictOf u a tsize rsize p) (verdictOf u b tsize rsize p)
+  unfolding verdictOf
+  verdict-alike p h =
+      record {
+        aside = decoded-aside (decodeOf p);
+        bytes = verdict-covered a u tsize rsize p ∙ h ∙ sym (verdict-covered b u tsize rsize p);
+      }

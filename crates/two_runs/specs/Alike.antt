@@ -1,6 +1,7 @@
--- When two image sets are alike to a run: they agree in slot count, presence and lengths, and on what its accepted reads cover. That two runs are then alike is a law
--- (`runs-alike` of proofs/Theorem); a set and its tidy form agree on every byte. What a read covers is said of the decoded packet: image ID, offset and length, as
--- document 01, "Images", has them. (The words are those of document 02, request 12, of which nothing is claimed here.)
+-- When two image sets are alike to a run: they agree in slot count, presence and lengths, and on what its accepted reads cover. That two runs are then
+-- alike is a law (`runs-alike` of proofs/Theorem); a set and its tidy form agree on every byte. What a read covers is said of the decoded packet: image ID,
+-- offset and length, as document 01, "Images", has them. It is just what the step gives: `judged` of proofs/Step, `verdict-covered` of proofs/Verdict. (The
+-- words are those of document 02, request 12, of which nothing is claimed here.)
 use Prim.Native.Nat.{ℕ, _+_, _-_, min}
 use mathlib.Core.Path.{_≡_}
 use mathlib.Core.List.{List, []}

@@ -1,8 +1,8 @@
--- What document 02, request 7, claims of sessions: "A device must get identical answers and image bytes from a set and its tidy form in any session, each step given
--- all else alike, where an image starts in its set aside." Two runs of any host, in the worlds of fetch/specs/Device: they begin in one world, whatever its session is
--- (opened, made up, ended), its buffers and its queue, and each step of the list is lent the same in both, but that where the one is lent its own image set, the other
--- is lent that set's tidy form. Steps may be refused, and be lent other things. The theorem, `ServesAlike definitions`, is `serves-alike` of proofs/Theorem, and through
--- the C interface `serves-alike-raw` of proofs/Raw.
+-- What document 02, request 7, claims of sessions: "A device must get identical answers and image bytes from a set and its tidy form in any session, each
+-- step given all else alike, where an image starts in its set aside." Two runs of any host, in the worlds of fetch/specs/Device: they begin in one world,
+-- whatever its session is (opened, made up, ended), its buffers and its queue, and each step of the list is lent the same in both, but that where the one
+-- is lent its own image set, the other is lent that set's tidy form. Steps may be refused, and be lent other things. The theorem, `ServesAlike
+-- definitions`, is `serves-alike` of proofs/Theorem, and through the C interface `serves-alike-raw` of two_runs_raw/proofs/Raw.
 use Prim.Native.Nat.{ℕ}
 use mathlib.Core.Path.{_≡_}
 use mathlib.Core.List.{List, [], _∷_}

@@ -1,3 +1,2 @@
 pub mod Claim
 pub mod Alike
-pub mod Raw

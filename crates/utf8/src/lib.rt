@@ -1,129 +1,56 @@
 // UTF-8 after Unicode's table 3-7.
+use utf8_sequence::Follow;
+use utf8_sequence::behind;
 ghost use mathlib.Core.Path.{_≡_};
-ghost use Prim.Native.Nat.{_+_, _<_, _≤_};
-ghost use lib.ListN.{length, getD, drop};
-ghost use Rattle.base.specs.Choice.{pick};
-ghost use Rattle.utf8.specs.Utf8.{from, within, utf8};
-ghost use Rattle.utf8.specs.Classes.{leadOf, Rule, rangesOf, comes};
+ghost use Rattle.utf8.specs.Utf8.{utf8};
+ghost use Rattle.utf8.specs.Classes.{Rule};
 
-// What follows a lead byte: how many bytes, and the range of the first of them; those behind it are 0x80..=0xBF.
-pub struct Follow {
-    pub more: usize,
-    pub low: u8,
-    pub high: u8,
-}
-
-// Whether a byte leads a sequence, and what follows it.
-pub enum Class {
-    Not,
-    Is(Follow),
-}
-
-// The class of each lead byte, a letter: the line is the byte's first hexadecimal digit, the place in it the second. In this order, with what table 3-7
-// has behind the lead byte:
-//
-//     00..7F  0
-//     80..C1  .  leads nothing
-//     C2..DF  1  80..BF
-//     E0      z  A0..BF  80..BF
-//     E1..EC  2  80..BF  80..BF
-//     ED      R  80..9F  80..BF
-//     EE..EF  2  80..BF  80..BF
-//     F0      w  90..BF  80..BF  80..BF
-//     F1..F3  3  80..BF  80..BF  80..BF
-//     F4      C  80..8F  80..BF  80..BF
-//     F5..FF  .  leads nothing
-//
-// '.' leads nothing. Of any other letter the lowest two bits tell how many bytes follow, the next two the first digit of the second byte's least value and
-// the next two that of its greatest, counted from 8 (the second digits are 0 and F); the highest two tell nothing. That each letter stands for its byte's
-// class is `Rule`, computed at all 256 where the array is lent (`lead-requires` of proofs/sequences).
+// The class of each lead byte: the number of its row in table 3-7, 1 to 9, and 0 where the byte leads nothing. The line is the byte's first hexadecimal
+// digit, the place in it the second.
 const CLASSES: [u8; 256] = *b"\
-    0000000000000000\
-    0000000000000000\
-    0000000000000000\
-    0000000000000000\
-    0000000000000000\
-    0000000000000000\
-    0000000000000000\
-    0000000000000000\
-    ................\
-    ................\
-    ................\
-    ................\
-    ..11111111111111\
     1111111111111111\
-    z222222222222R22\
-    w333C...........";
+    1111111111111111\
+    1111111111111111\
+    1111111111111111\
+    1111111111111111\
+    1111111111111111\
+    1111111111111111\
+    1111111111111111\
+    0000000000000000\
+    0000000000000000\
+    0000000000000000\
+    0000000000000000\
+    0022222222222222\
+    2222222222222222\
+    3444444444444566\
+    7888900000000000";
 
-// The class of a lead byte, read from the array.
-fn lead(classes: &[u8; 256], b: u8) -> Class
-    requires { ⌜ Rule (now classes) ⌝ }
-    ensures { λ r. ⌜ r ≡ leadOf b ⌝ }
-{
-    let c = classes[b as usize];
-    if c == b'.' {
-        return Class::Not;
-    }
-    Class::Is(Follow {
-        more: (c % 4) as usize,
-        low: 0x80 + 16 * (c / 4 % 4),
-        high: 0x8F + 16 * (c / 16 % 4),
-    })
-}
+// The rows of table 3-7: how many bytes follow the lead byte, and the least and the greatest second byte.
+const ROWS: [Follow; 9] = [
+    Follow(0, 0x00, 0x00), // 1: 00..7F
+    Follow(1, 0x80, 0xBF), // 2: C2..DF
+    Follow(2, 0xA0, 0xBF), // 3: E0
+    Follow(2, 0x80, 0xBF), // 4: E1..EC
+    Follow(2, 0x80, 0x9F), // 5: ED
+    Follow(2, 0x80, 0xBF), // 6: EE..EF
+    Follow(3, 0x90, 0xBF), // 7: F0
+    Follow(3, 0x80, 0xBF), // 8: F1..F3
+    Follow(3, 0x80, 0x8F), // 9: F4
+];
 
-// Whether a byte is one of 0x80..=0xBF, as those behind a lead byte are.
-fn continues(b: u8) -> bool
-    ensures { λ r. ⌜ r ≡ within (from 0x80 0xBF) b ⌝ }
+// Whether the bytes are UTF-8, one sequence after the other, by the class of each lead byte. The constants are lent, since the compiler writes an array to
+// the stack wherever it is named.
+fn sequences(classes: &[u8; 256], rows: [Follow; 9], s: &[u8]) -> bool
+    requires { ⌜ Rule (now classes) rows ⌝ }
+    ensures { λ r. ⌜ r ≡ utf8 (now (s .entry)) ⌝ }
 {
-    if b < 0x80 {
-        return false;
-    }
-    b <= 0xBF
-}
-
-// Where the bytes that follow a lead byte, which are to begin at i, end; 0 where they are not there.
-fn behind(f: Follow, s: &[u8], i: usize) -> usize
-    requires { ⌜ (f .more ≤ 3) × (0 < i) × (i ≤ length (now s)) ⌝ }
-    ensures { λ r. ⌜ r ≡ pick (comes (rangesOf f) (drop i (now (s .entry)))) (i + f .more) 0 ⌝ }
-{
-    if f.more == 0 {
-        return i;
-    }
-    if s.len() - i < f.more {
-        return 0;
-    }
-    if s[i] < f.low {
-        return 0;
-    }
-    if f.high < s[i] {
-        return 0;
-    }
-    if f.more == 1 {
-        return i + 1;
-    }
-    if !continues(s[i + 1]) {
-        return 0;
-    }
-    if f.more == 2 {
-        return i + 2;
-    }
-    if !continues(s[i + 2]) {
-        return 0;
-    }
-    i + 3
-}
-
-// Whether the bytes from `at` on are UTF-8, one sequence after the other.
-fn sequences(s: &[u8], at: usize) -> bool
-    ensures { λ r. ⌜ r ≡ utf8 (drop at (now (s .entry))) ⌝ }
-{
-    let classes = CLASSES;
-    let mut i = at;
+    let mut i: usize = 0;
     while i < s.len() {
-        let Class::Is(f) = lead(&classes, s[i]) else {
+        let class = classes[s[i] as usize];
+        if class == b'0' {
             return false;
-        };
-        i = behind(f, s, i + 1);
+        }
+        i = behind(rows[class as usize - b'1' as usize], s, i + 1);
         if i == 0 {
             return false;
         }
@@ -131,52 +58,9 @@ fn sequences(s: &[u8], at: usize) -> bool
     true
 }
 
-// Whether the bytes from `at` on are UTF-8, the first of them above ASCII: one of 0x80..=0xBF has to follow it, and outside of 0xC2..=0xF4 it leads nothing.
-// Most texts of other encodings end here, before the array is needed, which is made anew for each text.
-fn above_ascii(s: &[u8], at: usize) -> bool
-    requires { ⌜ (at < length (now s)) × (0x7F < getD (now s) at 0) ⌝ }
-    ensures { λ r. ⌜ r ≡ utf8 (drop at (now (s .entry))) ⌝ }
-{
-    if s.len() <= at + 1 {
-        return false;
-    }
-    if !continues(s[at + 1]) {
-        return false;
-    }
-    if s[at] < 0xC2 {
-        return false;
-    }
-    if 0xF4 < s[at] {
-        return false;
-    }
-    sequences(s, at)
-}
-
-// Whether the bytes are UTF-8. ASCII is passed over, four bytes at a turn.
+// Whether the bytes are UTF-8.
 pub fn valid(s: &[u8]) -> bool
     ensures { λ r. ⌜ r ≡ utf8 (now (s .entry)) ⌝ }
 {
-    let mut i: usize = 0;
-    while 4 <= s.len() - i {
-        if 0x7F < s[i] {
-            return above_ascii(s, i);
-        }
-        if 0x7F < s[i + 1] {
-            return above_ascii(s, i + 1);
-        }
-        if 0x7F < s[i + 2] {
-            return above_ascii(s, i + 2);
-        }
-        if 0x7F < s[i + 3] {
-            return above_ascii(s, i + 3);
-        }
-        i += 4;
-    }
-    while i < s.len() {
-        if 0x7F < s[i] {
-            return above_ascii(s, i);
-        }
-        i += 1;
-    }
-    true
+    sequences(&CLASSES, ROWS, s)
 }

@@ -5,9 +5,9 @@ use crate::text;
 use entry::RamdumpTable64;
 use entry::entry_at;
 use field::Width;
-use forecast::Foreseen;
 use forecast::forecast_of;
 use forecast::forecast_table;
+use forecast_sums::Foreseen;
 
 fn foreseen(f: Foreseen) {
     match f {

@@ -1,14 +1,12 @@
--- What crosses to C and is told by no other crate: entries, the next selected one, the region sheet and the forecast by a width that is a number (document 02,
--- requests 2, 4 and 5), the tidy form of an image set (its request 6), and the reset packet, built alone (document 01, "Building").
+-- What crosses to C and is told by no other crate: entries, the next selected one and the region sheet by a width that is a number (document 02, requests 2 and 4),
+-- the tidy form of an image set (its request 6), and the reset packet, built alone (document 01, "Building").
 use Prim.Native.Nat.{ℕ, _+_, _-_}
-use mathlib.Core.List.{List, []}
+use mathlib.Core.List.{List}
 use Rattle.base.specs.Choice.{pick}
 use Rattle.field.specs.Field.{fieldSize}
-use Rattle.entry.specs.Entry.{entriesOf, missing, entryAt}
+use Rattle.entry.specs.Entry.{missing, entryAt}
 use Rattle.entry.specs.declared.EntryAt.{EntryAt}
 use Rattle.selection.specs.Selection.{nextOf}
-use Rattle.forecast.specs.Forecast.{forecastOf}
-use Rattle.forecast.specs.declared.Foreseen.{Foreseen}
 use Rattle.raw.specs.Raw.{widthOf, isWidth}
 use Rattle.build.specs.declared.Request.the-variants as Q
 use Rattle.build.specs.Build as B
@@ -42,10 +40,6 @@ pageOutcome s p = record { sheet = s; page = p }
 
 abbrev pub crossed : SheetOutcome → PageOutcome
 crossed x = pageOutcome (rawSheet (x .sheet)) (x .page)
-
--- the forecast of a table; of a number that is no width there is no entry
-unfoldable pub forecastRaw : List ℕ → ℕ → List ℕ → Foreseen
-forecastRaw t n names = forecastOf 4096 (pick (isWidth n) (entriesOf (fieldSize (widthOf n)) t) []) names
 
 -- the tidy form: the answer's numbers, and the buffer afterwards
 pub record RoomOutcome : Type 0 where

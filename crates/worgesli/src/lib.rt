@@ -4,8 +4,6 @@ use bundle::check_images;
 use bundle::check_names;
 use entry::entry_at;
 use entry::no_entry;
-use field::Width;
-use forecast::forecast_table;
 use image::ImageId;
 use image::image_range;
 use packet::sahara_parse_packet;
@@ -26,9 +24,11 @@ ghost use Rattle.bundle.specs.Bundle.{imagesChecked, namesChecked};
 ghost use Rattle.image.specs.Image.{rangeOf};
 ghost use Rattle.packet.specs.Packet.{decodeOf};
 ghost use Rattle.raw.specs.Raw.{isSession, openedRaw, steppedAt, toldIn};
+ghost use Rattle.raw_forecast.specs.RawForecast.{forecastRaw};
 ghost use Rattle.raw_packet.specs.RawPacket.{rawPacket};
 ghost use Rattle.raw_records.specs.Records.{rawEntry, rawRange, rawForecast, rawTidied, checkedNumber};
-ghost use Rattle.raw_step.specs.RawStep.{rawOutcome, stepRaw, rawAt, waitsAt, closedRaw, wantedRaw};
+ghost use Rattle.in_place.specs.Place.{rawAt, waitsAt};
+ghost use Rattle.raw_step.specs.RawStep.{rawOutcome, stepRaw, closedRaw, wantedRaw};
 ghost use Rattle.tidied.specs.Tidy.{tidyLenOf, tidyOf};
 ghost use Rattle.worgesli.specs.Worgesli.{
   entryRaw,
@@ -36,7 +36,6 @@ ghost use Rattle.worgesli.specs.Worgesli.{
   pageOutcome,
   crossed,
   sheetRaw,
-  forecastRaw,
   roomOutcome,
   tidyRaw,
   resetOutcome,
@@ -105,7 +104,7 @@ pub extern "C" fn worgesli_step(
         reply,
         out,
     );
-    raw::stepped_at(raw_step::raw_at(&head, &numbers, &window), told)
+    raw::stepped_at(in_place::raw_at(&head, &numbers, &window), told)
 }
 
 // As worgesli_step, with the session in place: mode, command, backend and phase; reads, count, at, base, len, done, outstanding, due and width; the window.
@@ -247,10 +246,7 @@ pub extern "C" fn worgesli_region_sheet(table: &[u8], width: u64, page: &mut [u8
 pub extern "C" fn worgesli_forecast_table(table: &[u8], width: u64, names: &[u8]) -> RawForecast
     ensures { λ r. ⌜ r ≡ rawForecast (forecastRaw (now (table .entry)) width (now (names .entry))) ⌝ }
 {
-    if !raw::is_width(width) {
-        return raw_records::raw_forecast(forecast_table(&table[..0], Width::Bits64, names));
-    }
-    raw_records::raw_forecast(forecast_table(table, raw::width_of(width), names))
+    raw_forecast::forecast_table(table, width, names)
 }
 
 // The tidy form of an image set, written to a buffer.

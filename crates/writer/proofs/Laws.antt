@@ -20,6 +20,12 @@ use Rattle.bundle.specs.declared.Slot.the-variants as S
 use Rattle.bundle.specs.Content.{Content, isPresent, bytesIn, sizeIn, contentAt, contentOf}
 use Rattle.writer.specs.Writer.{dataOf, startFor, startsFrom, bundleBytes, mostData}
 
+-- ---- equal slots each have their bytes: two of "A"
+
+pub each-its-own : dataOf (some (0x41 ∷ []) ∷ some (0x41 ∷ []) ∷ []) ≡ 0x41 ∷ 0x41 ∷ []
+unfolding dataOf
+each-its-own = refl
+
 -- ---- one slot more
 
 pub data-more : (xs : List Content) (x : Content) → dataOf (xs ++ x ∷ []) ≡ dataOf xs ++ bytesIn x

@@ -14,18 +14,17 @@ use Rattle.entry.specs.Entry.{entriesIn}
 use Rattle.session.specs.Guard.{betweenStep}
 use Rattle.base.proofs.Tests.{neither}
 use Rattle.turn.proofs.Laws.{passed, guard-refused, guard-passed}
-use borrow.Author.Needs.{needs}
 use Rattle.between_phase.proofs.between_step.Statement.{statement}
 use Rattle.between_phase.proofs.between_step.Tie as tie
 
 between-limit-requires : tie.Need-between-limit-requires
-between-limit-requires c κs = search needs
+between-limit-requires c κs = tt
 
 guard-requires : tie.Need-guard-requires
-guard-requires c κs = search needs
+guard-requires c κs = tt
 
 untouched-requires : tie.Need-untouched-requires
-untouched-requires c κs = search needs
+untouched-requires c κs = tt
 
 returns : tie.Need-returns
 unfolding betweenStep

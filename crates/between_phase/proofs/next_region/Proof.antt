@@ -9,15 +9,14 @@ use Rattle.selection.specs.Selection.{nextOf}
 use Rattle.entry.specs.Entry.{entriesIn}
 use Rattle.session.specs.BetweenPhase.{betweenOf}
 use Rattle.turn.proofs.Laws.{entry-within}
-use borrow.Author.Needs.{needs}
 use Rattle.between_phase.proofs.next_region.Statement.{statement}
 use Rattle.between_phase.proofs.next_region.Tie as tie
 
 entries-in-requires : tie.Need-entries-in-requires
-entries-in-requires c κs = search needs
+entries-in-requires c κs = tt
 
 next-selected-requires : tie.Need-next-selected-requires
-next-selected-requires c κs = search needs
+next-selected-requires c κs = tt
 
 -- the entry that was found is the definition's
 found : (c : tie.After-next-selected)
@@ -27,7 +26,7 @@ found : (c : tie.After-next-selected)
 found c = c .next-selected .ensures ∙ rw (c .before .entries-in .ensures) refl
 
 moved-requires : tie.Need-moved-requires
-moved-requires c κs = search needs
+moved-requires c κs = tt
 
 returns : tie.Need-returns
 unfolding betweenOf

@@ -14,7 +14,7 @@ returns : tie.Need-returns
 returns c = refuses _ _ (omega arith)
 
 kind-number-requires : tie.Need-kind-number-requires
-kind-number-requires c κs = search needs
+kind-number-requires c κs = tt
 
 sahara-send-generic-requires : tie.Need-sahara-send-generic-requires
 sahara-send-generic-requires c κs = search needs

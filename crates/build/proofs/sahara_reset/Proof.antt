@@ -15,7 +15,7 @@ sahara-send-generic-requires : tie.Need-sahara-send-generic-requires
 sahara-send-generic-requires c κs = search needs
 
 same-length : tie.Need-same-length
-same-length c = search needs
+same-length c = c .before .out .given
 
 returns-2 : tie.Need-returns-2
 unfolding bytesOf fields leBytes

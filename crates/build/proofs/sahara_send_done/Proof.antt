@@ -12,13 +12,13 @@ returns : tie.Need-returns
 returns c = refuses _ _ (omega arith)
 
 kind-number-requires : tie.Need-kind-number-requires
-kind-number-requires c κs = search needs
+kind-number-requires c κs = tt
 
 sahara-send-generic-requires : tie.Need-sahara-send-generic-requires
 sahara-send-generic-requires c κs = search needs
 
 same-length : tie.Need-same-length
-same-length c = search needs
+same-length c = c .before .out .given
 
 returns-2 : tie.Need-returns-2
 unfolding bytesOf fields leBytes

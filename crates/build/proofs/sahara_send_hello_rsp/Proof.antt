@@ -13,13 +13,13 @@ returns : tie.Need-returns
 returns c = refuses _ _ (omega arith)
 
 kind-number-requires : tie.Need-kind-number-requires
-kind-number-requires c κs = search needs
+kind-number-requires c κs = tt
 
 sahara-send-generic-requires : tie.Need-sahara-send-generic-requires
 sahara-send-generic-requires c κs = search needs
 
 mode-number-requires : tie.Need-mode-number-requires
-mode-number-requires c κs = search needs
+mode-number-requires c κs = tt
 
 hello-body-requires : tie.Need-hello-body-requires
 hello-body-requires c κs = search needs

@@ -1,24 +1,23 @@
 -- `bundle::check_names` meets its contract: good where `well_formed` says so, else refused. Assumes nothing.
-use mathlib.Core.Path.{_≡_}
+use mathlib.Core.Path.{_≡_, sym, _∙_}
 use mathlib.Core.Bool.{true, false}
 use denote.Ref.{now}
 use Rattle.base.proofs.Telling.{tells}
 use Rattle.bundle.specs.Bundle.{wellFormed, checkedTold}
-use borrow.Author.Needs.{needs}
 use Rattle.bundle.proofs.check_names.Statement.{statement}
 use Rattle.bundle.proofs.check_names.Tie as tie
 
 well-formed-requires : tie.Need-well-formed-requires
-well-formed-requires c κs = search needs
+well-formed-requires c κs = tt
 
 returns : tie.Need-returns
 returns c =
-    let w : wellFormed false (now (c .before .before .before .args .names)) ≡ true = cc in
+    let w : wellFormed false (now (c .before .before .before .args .names)) ≡ true = sym (c .before .well-formed .ensures) ∙ c .if1 .taken in
     tells checkedTold (simp w)
 
 returns-2 : tie.Need-returns-2
 returns-2 c =
-    let w : wellFormed false (now (c .before .before .before .args .names)) ≡ false = cc in
+    let w : wellFormed false (now (c .before .before .before .args .names)) ≡ false = sym (c .before .well-formed .ensures) ∙ c .if1 .left in
     tells checkedTold (simp w)
 
 pub check-names-spec : {M : Type 1} → statement M

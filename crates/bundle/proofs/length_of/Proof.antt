@@ -1,5 +1,10 @@
 -- `bundle::length_of` meets its contract: the number read is at the slot's place, since n is the count. Assumes nothing.
+use mathlib.Core.Path.{ap, _∙_}
+use Prim.Native.Nat.{ℕ, _+_, _*_}
 use native.Mathlib.Omega.{arith}
+use denote.Ref.{now}
+use lib.ListN.{drop}
+use Rattle.field.specs.Field.{le}
 use borrow.Author.Needs.{needs}
 use Rattle.bundle.proofs.length_of.Statement.{statement}
 use Rattle.bundle.proofs.length_of.Tie as tie
@@ -17,10 +22,14 @@ add-slot-number-2 : tie.Need-add-slot-number-2
 add-slot-number-2 c = search needs
 
 slot-number-requires : tie.Need-slot-number-requires
-slot-number-requires c κs = search needs
+slot-number-requires c κs = omega (arith, c .before .pre .1, c .before .pre .2)
 
 returns : tie.Need-returns
-returns c = (cc, omega arith)
+returns c =
+    let s = c .before .before in (
+      c .slot-number .ensures .0 ∙ ap (λ (n : ℕ). le 4 (drop (8 + 4 * n + 4 * s .args .i) (now (s .args .b)))) (s .pre .0),
+      c .slot-number .ensures .1,
+    )
 
 pub length-of-spec : {M : Type 1} → statement M
 length-of-spec =

@@ -17,12 +17,12 @@ returns c = search needs
 
 returns-2 : tie.Need-returns-2
 returns-2 c =
-    let e : c .before .before .before .args .opening .backend ≡ Usb = cc in
+    let e : c .before .before .before .args .opening .backend ≡ Usb = c .before .enum-told .given .1 in
     simp (e, eq-eqb _ _ (c .if1 .taken))
 
 returns-3 : tie.Need-returns-3
 returns-3 c =
-    let e : c .before .before .before .args .opening .backend ≡ Usb = cc in
+    let e : c .before .before .before .args .opening .backend ≡ Usb = c .before .enum-told .given .1 in
     simp (e, ne-eqb _ _ (c .if1 .left))
 
 pub due-after-spec : {M : Type 1} → statement M

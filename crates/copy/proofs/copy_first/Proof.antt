@@ -1,11 +1,12 @@
 -- `copy::copy_first` meets its contract. The loop's invariant: the first j bytes are pasted, and the length is kept. The measure is what is
 -- left of n. Assumes nothing.
-use mathlib.Core.Path.{_≡_, refl}
-use Prim.Native.Nat.{_-_, _≤_}
+use mathlib.Core.Path.{_≡_, refl, ap, _∙_}
+use mathlib.Core.List.{List}
+use Prim.Native.Nat.{ℕ, _+_, _-_, _≤_}
 use native.Mathlib.Numerals.{add-one}
 use native.Mathlib.Omega.{arith}
 use denote.Ref.{now}
-use lib.ListN.{length, length-set}
+use lib.ListN.{length, getD, set, length-set}
 use lib.Seq.{paste, paste-zero, paste-suc}
 use borrow.Author.Needs.{needs}
 use Rattle.copy.proofs.copy_first.Statement.{statement}
@@ -39,7 +40,9 @@ loop-again : tie.Need-loop-again Inv-loop μ-loop
 loop-again c = let a = c .before .before .before .args in
     let l = c .before .before .loop in (
       omega arith,
-      rw (l .inv .1, paste-suc (now (a .d)) (a .at) (now (a .s)) (l .j) 0 (omega arith) (omega arith), add-one (l .j)) refl,
+      rw add-one
+          (ap (λ (x : List ℕ). set x (a .at + l .j) (getD (now (a .s)) (l .j) 0)) (l .inv .1)
+          ∙ paste-suc (now (a .d)) (a .at) (now (a .s)) (l .j) 0 (omega arith) (omega arith)),
       simp length-set (omega arith),
     )
 

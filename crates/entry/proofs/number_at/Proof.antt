@@ -4,7 +4,7 @@ use Rattle.entry.proofs.number_at.Statement.{statement}
 use Rattle.entry.proofs.number_at.Tie as tie
 
 enum-told : tie.Need-enum-told
-enum-told c = search needs
+enum-told c = c .match .keys1
 
 u32-padded-requires : tie.Need-u32-padded-requires
 u32-padded-requires c κs = search needs
@@ -13,7 +13,7 @@ cast-result : tie.Need-cast-result
 cast-result c = search needs
 
 enum-told-2 : tie.Need-enum-told-2
-enum-told-2 c = search needs
+enum-told-2 c = c .match .keys2
 
 u64-padded-requires : tie.Need-u64-padded-requires
 u64-padded-requires c κs = search needs

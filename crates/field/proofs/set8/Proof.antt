@@ -1,8 +1,7 @@
 -- `field::set8` meets its contract: the two stores of 4 bytes are the store of 8, by `leBytes-split`. Assumes nothing.
-use native.Mathlib.Omega.{arith}
-use mathlib.Core.Path.{_≡_, refl, ap, sym, _∙_}
-use Prim.Native.Nat.{ℕ, suc, _+_, _*_, _/_, _%_}
-use denote.Ref.{now}
+use mathlib.Core.Path.{ap, _∙_}
+use mathlib.Core.List.{List}
+use Prim.Native.Nat.{ℕ, _+_, _/_}
 use lib.Seq.{sets}
 use Rattle.field.specs.Field.{leBytes}
 use Rattle.base.proofs.Lists.{sets-append}
@@ -32,7 +31,9 @@ same-length c = search needs
 returns : tie.Need-returns
 returns c =
     let a = c .before .before .before .before .before .before .before .before .before .args in
-    rw (leBytes-split 4 4 (a .v), sets-append, length-leBytes 4 (a .v), ← leBytes-mod 4 (a .v)) cc
+    let w = c .before .before in
+    rw (leBytes-split 4 4 (a .v), sets-append, length-leBytes 4 (a .v), ← leBytes-mod 4 (a .v))
+    (w .set42 .ensures ∙ ap (λ (l : List ℕ). sets l (a .at + 4) (leBytes 4 (a .v / 4294967296))) (w .before .before .before .before .set4 .ensures))
 
 pub set8-spec : {M : Type 1} → statement M
 set8-spec =

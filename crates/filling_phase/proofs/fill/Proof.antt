@@ -13,10 +13,10 @@ sub-least : tie.Need-sub-least
 sub-least c = search needs
 
 least-requires : tie.Need-least-requires
-least-requires c κs = search needs
+least-requires c κs = tt
 
 copy-into-requires : tie.Need-copy-into-requires
-copy-into-requires c κs = search needs
+copy-into-requires c κs = tt
 
 same-length : tie.Need-same-length
 same-length c = search needs

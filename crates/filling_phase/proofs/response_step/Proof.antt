@@ -22,13 +22,13 @@ abbrev begun : tie.After-guard → tie.Start
 begun g = g .before .before .before .before .before .before .before .before
 
 filling-limit-requires : tie.Need-filling-limit-requires
-filling-limit-requires c κs = search needs
+filling-limit-requires c κs = tt
 
 guard-requires : tie.Need-guard-requires
-guard-requires c κs = search needs
+guard-requires c κs = tt
 
 untouched-requires : tie.Need-untouched-requires
-untouched-requires c κs = search needs
+untouched-requires c κs = tt
 
 same-length : tie.Need-same-length
 same-length c = search needs
@@ -66,7 +66,7 @@ add-received : tie.Need-add-received
 add-received c = search needs
 
 moved-requires : tie.Need-moved-requires
-moved-requires c κs = search needs
+moved-requires c κs = tt
 
 same-length-3 : tie.Need-same-length-3
 same-length-3 c = search needs
@@ -83,10 +83,10 @@ returns-2 c =
     tells outcomeTold (behind f (simp (lt-ltb _ _ (rw (e .0) at (i .if2 .taken)), e .1, e .0, c .moved .ensures)))
 
 build-requires : tie.Need-build-requires
-build-requires c κs = search needs
+build-requires c κs = tt
 
 moved-requires-2 : tie.Need-moved-requires-2
-moved-requires-2 c κs = search needs
+moved-requires-2 c κs = tt
 
 same-length-5 : tie.Need-same-length-5
 same-length-5 c = search needs

@@ -9,15 +9,14 @@ use Rattle.session.specs.Outcome.{outcome}
 use Rattle.session.specs.FillingPhase.{switchedOf}
 use Rattle.session.specs.Guard.{switchedStep}
 use Rattle.turn.proofs.Laws.{guard-refused, guard-passed}
-use borrow.Author.Needs.{needs}
 use Rattle.filling_phase.proofs.switched_step.Statement.{statement}
 use Rattle.filling_phase.proofs.switched_step.Tie as tie
 
 guard-requires : tie.Need-guard-requires
-guard-requires c κs = search needs
+guard-requires c κs = tt
 
 untouched-requires : tie.Need-untouched-requires
-untouched-requires c κs = search needs
+untouched-requires c κs = tt
 
 returns : tie.Need-returns
 unfolding switchedStep
@@ -29,7 +28,7 @@ returns c =
     (c .before .if1 .taken) (c .untouched .ensures))
 
 moved-requires : tie.Need-moved-requires
-moved-requires c κs = search needs
+moved-requires c κs = tt
 
 returns-2 : tie.Need-returns-2
 unfolding switchedStep switchedOf

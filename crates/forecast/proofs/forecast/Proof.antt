@@ -54,30 +54,30 @@ use Rattle.base.specs.Told.{Tells}
 use Rattle.base.proofs.Telling.{tells}
 use Rattle.entry.specs.Entry.{nothing as noEntry}
 use Rattle.entry.specs.declared.RamdumpTable64.{RamdumpTable64}
-use Rattle.forecast.specs.Forecast.{forecastOf, forecastTold}
-use Rattle.forecast.specs.Sums.{startOf, addOf, addAll, foreseenOf}
-use Rattle.forecast.specs.declared.Sums.{Sums}
-use Rattle.forecast.specs.declared.Foreseen.{Foreseen}
-use Rattle.forecast.proofs.Laws.{sums-are}
+use Rattle.forecast_sums.specs.Forecast.{forecastOf, forecastChunk as chunk, forecastTold}
+use Rattle.forecast_sums.specs.Sums.{startOf, addOf, addAll, foreseenOf}
+use Rattle.forecast_sums.specs.declared.Sums.{Sums}
+use Rattle.forecast_sums.specs.declared.Foreseen.{Foreseen}
+use Rattle.forecast_sums.proofs.Laws.{sums-are}
 use Rattle.forecast.proofs.While.{tests}
 use Rattle.entry.proofs.RamdumpTable64 as T
 use Rattle.entry.proofs.RamdumpTable64.Laws as T′
-use Rattle.forecast.proofs.Sums as S
-use Rattle.forecast.proofs.Sums.Laws as S′
-use Rattle.forecast.proofs.Foreseen as R
-use Rattle.forecast.proofs.Foreseen.Laws as R′
-use Rattle.forecast.proofs.start as start
-use Rattle.forecast.proofs.start.Symbol as start-def
-use Rattle.forecast.proofs.start.Symbol.{name as #forecast·start}
-use Rattle.forecast.proofs.start.Met as start-thm
-use Rattle.forecast.proofs.add as add
-use Rattle.forecast.proofs.add.Symbol as add-def
-use Rattle.forecast.proofs.add.Symbol.{name as #forecast·add}
-use Rattle.forecast.proofs.add.Met as add-thm
-use Rattle.forecast.proofs.finish as finish
-use Rattle.forecast.proofs.finish.Symbol as finish-def
-use Rattle.forecast.proofs.finish.Symbol.{name as #forecast·finish}
-use Rattle.forecast.proofs.finish.Met as finish-thm
+use Rattle.forecast_sums.proofs.Sums as S
+use Rattle.forecast_sums.proofs.Sums.Laws as S′
+use Rattle.forecast_sums.proofs.Foreseen as R
+use Rattle.forecast_sums.proofs.Foreseen.Laws as R′
+use Rattle.forecast_sums.proofs.start as start
+use Rattle.forecast_sums.proofs.start.Symbol as start-def
+use Rattle.forecast_sums.proofs.start.Symbol.{name as #sums·start}
+use Rattle.forecast_sums.proofs.start.Met as start-thm
+use Rattle.forecast_sums.proofs.add as add
+use Rattle.forecast_sums.proofs.add.Symbol as add-def
+use Rattle.forecast_sums.proofs.add.Symbol.{name as #sums·add}
+use Rattle.forecast_sums.proofs.add.Met as add-thm
+use Rattle.forecast_sums.proofs.finish as finish
+use Rattle.forecast_sums.proofs.finish.Symbol as finish-def
+use Rattle.forecast_sums.proofs.finish.Symbol.{name as #sums·finish}
+use Rattle.forecast_sums.proofs.finish.Met as finish-thm
 use Rattle.forecast.proofs.forecast.Key.{name as #forecast·forecast}
 use Rattle.forecast.proofs.forecast as forecast
 use Rattle.forecast.proofs.forecast.Statement as stated
@@ -86,9 +86,6 @@ use Rattle.forecast.proofs.forecast.Code.Mir as code-mir
 
 abbrev stayed : Stays (forecast.ended .signature .params) (forecast.ended .kept)
 stayed = (stay-none-slice (0 ∷ []) tt (plain (λ _. T.the-row)) yes, (stay-none-slice (1 ∷ []) tt (plain (λ _. u8)) yes, tt))
-
-abbrev chunk : ℕ
-chunk = 4096
 
 -- the bytes that an entry takes
 abbrev size : ℕ
@@ -226,8 +223,8 @@ module _ {M : Type 1} (𝓤 : URA M) (H : Heap 𝓤) (A : Atoms 𝓤) (W : Given
       (((κ, (κ′, tt)), (q, (q′, tt)), tt, (s, (names, tt)), (v ∷ [], (v′ ∷ [], tt))), tt) u r (tt, (tt, tt)) (tt, (tt, tt))) $ says ! e $
       move ! (1 ∷ 2 ∷ []) $ join ! $ frame ! $ nothing ! $ move ! (3 ∷ 0 ∷ []) $ fjoin ! $ move ! (2 ∷ 0 ∷ []) $ fjoin ! $ frame ! $ done !
 
-  module _ (𝓣 : Tables 𝓤 H) (known-add : Triple 𝓤 (𝓣 .C #forecast·add) (Add 𝓤 H A mem run))
-      (known-finish : Triple 𝓤 (𝓣 .C #forecast·finish) (Finish 𝓤 H A mem run)) (gn : Room T.the-row (length ys)) (l₀ l₁ l₂ l₃ l₄ l₅ l₆ l₇ l₈ : ℕ) where
+  module _ (𝓣 : Tables 𝓤 H) (known-add : Triple 𝓤 (𝓣 .C #sums·add) (Add 𝓤 H A mem run))
+      (known-finish : Triple 𝓤 (𝓣 .C #sums·finish) (Finish 𝓤 H A mem run)) (gn : Room T.the-row (length ys)) (l₀ l₁ l₂ l₃ l₄ l₅ l₆ l₇ l₈ : ℕ) where
     abbrev slice : Ty
     slice = sliceTy (tyRef (named 0) imm (pointee (T.the-row .written)))
 
@@ -318,8 +315,8 @@ module _ {M : Type 1} (𝓤 : URA M) (H : Heap 𝓤) (A : Atoms 𝓤) (W : Given
     runs-loop : (t : At ys ns) → Sq W (I t) (runs (𝓣 .C) (𝓣 .Λ) E code-mir.t-3 (atRet E Post))
     runs-loop t = first ! $ blocks ! $ loops ! 𝓣 ≺ (InvImage·wf (left ys ns) (Nat·lt-wfRel .wf)) I turn t
 
-  walk : (𝓣 : Tables 𝓤 H) → Triple 𝓤 (𝓣 .C #forecast·start) (Start 𝓤 H A mem run) → Triple 𝓤 (𝓣 .C #forecast·add) (Add 𝓤 H A mem run) → Triple 𝓤
-      (𝓣 .C #forecast·finish) (Finish 𝓤 H A mem run) → Room T.the-row (length ys) → Room u8 (length ns)
+  walk : (𝓣 : Tables 𝓤 H) → Triple 𝓤 (𝓣 .C #sums·start) (Start 𝓤 H A mem run) → Triple 𝓤 (𝓣 .C #sums·add) (Add 𝓤 H A mem run) → Triple 𝓤
+      (𝓣 .C #sums·finish) (Finish 𝓤 H A mem run) → Room T.the-row (length ys) → Room u8 (length ns)
       → ent 𝓤 (onEntry 𝓤 H A forecast.signature (κ, (κ′, tt)) (q, (q′, tt)) (s, (names, tt)) (v ∷ [], (v′ ∷ [], tt)))
       (WpFn 𝓤 H (𝓣 .C) (𝓣 .Λ) code.function (v ∷ v′ ∷ []) Post)
   walk 𝓣 known-start known-add known-finish gn gm =
@@ -348,8 +345,8 @@ module _ {M : Type 1} (𝓤 : URA M) (H : Heap 𝓤) (A : Atoms 𝓤) (W : Given
       runs-loop 𝓣 known-add known-finish gn l₀ l₁ l₂ l₃ l₄ l₅ l₆ l₇ l₈ (record { i = 0; sums = r; mach = u; is = is; so = begins ys ns r e }))))))))))))))
 
 module _ {M : Type 1} (𝓤 : URA M) (H : Heap 𝓤) (A : Atoms 𝓤) (W : Given 𝓤 H A) (mem : Memory → SProp 𝓤) (run : Routine → Fun 𝓤) (𝓣 : Tables 𝓤 H)
-    (known-start : Triple 𝓤 (𝓣 .C #forecast·start) (Start 𝓤 H A mem run)) (known-add : Triple 𝓤 (𝓣 .C #forecast·add) (Add 𝓤 H A mem run))
-    (known-finish : Triple 𝓤 (𝓣 .C #forecast·finish) (Finish 𝓤 H A mem run)) where
+    (known-start : Triple 𝓤 (𝓣 .C #sums·start) (Start 𝓤 H A mem run)) (known-add : Triple 𝓤 (𝓣 .C #sums·add) (Add 𝓤 H A mem run))
+    (known-finish : Triple 𝓤 (𝓣 .C #sums·finish) (Finish 𝓤 H A mem run)) where
   forecast-walks : Walks 𝓤 H A forecast.ended stayed (WpFn 𝓤 H (𝓣 .C) (𝓣 .Λ) code.function) (forecast.clauses 𝓤 H A mem run)
   forecast-walks = walked 𝓤 H A forecast.ended stayed (forecast.clauses 𝓤 H A mem run) (WpFn 𝓤 H (𝓣 .C) (𝓣 .Λ) code.function)
       (λ κs. (slice-vals, (slice-vals, tt))) (λ κs. (shr-slice-tells (named 0) (κs .0) T.the-row, (shr-slice-tells (named 1) (κs .1 .0) u8, tt)))
@@ -370,6 +367,6 @@ forecast-spec 𝓤 H 𝓜 𝓖 𝓡 =
     entered 𝓤 H (tripleOf 𝓤 H (𝓖 .A) forecast.signature (forecast.spec 𝓤 H (𝓖 .A) (𝓜 .mem) (𝓡 .run)))
     (tables 𝓤 H 𝓜 𝓡 code.env .C) (tables 𝓤 H 𝓜 𝓡 code.env .Λ) #forecast·forecast code.function (code.unfolded 𝓤 H 𝓜 𝓡)
     (forecast-meets 𝓤 H (𝓖 .A) (givenOf 𝓤 H 𝓜 𝓖) (𝓜 .mem) (𝓡 .run) (tablesOf 𝓤 H 𝓜 (tables 𝓤 H 𝓜 𝓡 code.env))
-    (cited 𝓤 H (Start 𝓤 H (𝓖 .A) (𝓜 .mem) (𝓡 .run)) 𝓜 𝓡 code.env #forecast·start start-def.routine code.calls-forecast·start (start-thm.met 𝓤 H 𝓜 𝓖 𝓡))
-    (cited 𝓤 H (Add 𝓤 H (𝓖 .A) (𝓜 .mem) (𝓡 .run)) 𝓜 𝓡 code.env #forecast·add add-def.routine code.calls-forecast·add (add-thm.met 𝓤 H 𝓜 𝓖 𝓡))
-    (cited 𝓤 H (Finish 𝓤 H (𝓖 .A) (𝓜 .mem) (𝓡 .run)) 𝓜 𝓡 code.env #forecast·finish finish-def.routine code.calls-forecast·finish (finish-thm.met 𝓤 H 𝓜 𝓖 𝓡)))
+    (cited 𝓤 H (Start 𝓤 H (𝓖 .A) (𝓜 .mem) (𝓡 .run)) 𝓜 𝓡 code.env #sums·start start-def.routine code.calls-forecast-sums·start (start-thm.met 𝓤 H 𝓜 𝓖 𝓡))
+    (cited 𝓤 H (Add 𝓤 H (𝓖 .A) (𝓜 .mem) (𝓡 .run)) 𝓜 𝓡 code.env #sums·add add-def.routine code.calls-forecast-sums·add (add-thm.met 𝓤 H 𝓜 𝓖 𝓡))
+    (cited 𝓤 H (Finish 𝓤 H (𝓖 .A) (𝓜 .mem) (𝓡 .run)) 𝓜 𝓡 code.env #sums·finish finish-def.routine code.calls-forecast-sums·finish (finish-thm.met 𝓤 H 𝓜 𝓖 𝓡)))

@@ -55,12 +55,12 @@ use denote.Triple.Clauses.{ensured, lasts}
 use denote.Exit.{yes}
 use Rattle.base.specs.Told.{Tells}
 use Rattle.entry.specs.declared.RamdumpTable64.{RamdumpTable64}
-use Rattle.forecast.specs.Forecast.{forecastOf, forecastTold}
-use Rattle.forecast.specs.declared.Foreseen.{Foreseen as Answer}
+use Rattle.forecast_sums.specs.Forecast.{forecastOf, forecastChunk as chunk, forecastTold}
+use Rattle.forecast_sums.specs.declared.Foreseen.{Foreseen as Answer}
 use Rattle.entry.proofs.RamdumpTable64 as T
 use Rattle.entry.proofs.RamdumpTable64.Laws as T′
-use Rattle.forecast.proofs.Foreseen as R
-use Rattle.forecast.proofs.Foreseen.Laws as R′
+use Rattle.forecast_sums.proofs.Foreseen as R
+use Rattle.forecast_sums.proofs.Foreseen.Laws as R′
 use Rattle.forecast.proofs.forecast as forecast
 use Rattle.forecast.proofs.forecast.Symbol as forecast-def
 use Rattle.forecast.proofs.forecast.Symbol.{name as #forecast·forecast}
@@ -104,9 +104,9 @@ module _ {M : Type 1} (𝓤 : URA M) (H : Heap 𝓤) (A : Atoms 𝓤) (mem″ : 
     goes = qed W Asks ∵ join ! $ frame ! $ done !
 
     said : (r : Answer) → ent 𝓤 (ensured 𝓤 H A forecast.ended (forecast.clauses 𝓤 H A mem″ run) (κ, (κ′, tt)) (s, (names, tt)) tt r)
-        (fact 𝓤 (Tells forecastTold r (forecastOf 4096 (now s) (now names))))
+        (fact 𝓤 (Tells forecastTold r (forecastOf chunk (now s) (now names))))
     said r = exE 𝓤 _ (λ ws. snd∗ 𝓤 (sem 𝓤 H A (lasts forecast.ended (κ, (κ′, tt)) (s, (names, tt)) ws))
-        (fact 𝓤 (Tells forecastTold r (forecastOf 4096 (now s) (now names)))))
+        (fact 𝓤 (Tells forecastTold r (forecastOf chunk (now s) (now names)))))
 
 -- ---- the array in memory: its first k elements, which can be lent, beside the others; and back
 module _ {M : Type 1} (𝓤 : URA M) (H : Heap 𝓤) (A : Atoms 𝓤) (W : Given 𝓤 H A) (xs : List RamdumpTable64) (k : ℕ) (v : Val) (b : ℕ) where
@@ -167,7 +167,7 @@ module _ {M : Type 1} (𝓤 : URA M) (H : Heap 𝓤) (A : Atoms 𝓤) (W : Given
   lent b γ = record { ptr = (b, 0); name = γ; now = take k xs }
 
   module _ (p : Is Eight xs (v ∷ [])) (gk : k < 2 ^ 64) where
-    exits : (r : Answer) (u : Val) → Tells forecastTold r (forecastOf 4096 (take k xs) (now names)) → ent 𝓤
+    exits : (r : Answer) (u : Val) → Tells forecastTold r (forecastOf chunk (take k xs) (now names)) → ent 𝓤
         (⋆ 𝓤 H A (‵ (R.the-row .own r (u ∷ [])) ∷ Tok ∷ ‵ OwnN ∷ [])) (Post u)
     exits r u e =
         qed W (‵ (R.the-row .own r (u ∷ [])) ∷ Tok ∷ ‵ OwnN ∷ []) ∵
@@ -209,8 +209,8 @@ module _ {M : Type 1} (𝓤 : URA M) (H : Heap 𝓤) (A : Atoms 𝓤) (W : Given
           ⊛ raw (ensured 𝓤 H A forecast.ended (forecast.clauses 𝓤 H A mem″ run) ((α ∷ []), (κ, tt)) (lent l₄ γ, (names, tt)) tt r)))) (id⊢ 𝓤 _) $ await ! tt $
           pick ! (λ r.
           split ! $ move ! (1 ∷ []) $
-          use1 W (raw (fact 𝓤 (Tells forecastTold r (forecastOf 4096 (take k xs) (now names))))) (said 𝓤 H A mem″ run W (α ∷ []) κ q (lent l₄ γ) names r) $
-          heard ! (Tells forecastTold r (forecastOf 4096 (take k xs) (now names))) (λ e. split ! $ split ! $
+          use1 W (raw (fact 𝓤 (Tells forecastTold r (forecastOf chunk (take k xs) (now names))))) (said 𝓤 H A mem″ run W (α ∷ []) κ q (lent l₄ γ) names r) $
+          heard ! (Tells forecastTold r (forecastOf chunk (take k xs) (now names))) (λ e. split ! $ split ! $
           -- [the token; names' token; the result; what names owns; the lender's part; the others; _6; …]: the lifetime is ended, and the elements come back
           lft-end ! tt $ move ! (0 ∷ 4 ∷ []) $ lent-back ! tt $ move ! (0 ∷ 4 ∷ []) $
           use2 W (‵ (fat fullShare (tyArray T′.mir many) l₄ 0 v)) (together 𝓤 H A W xs k v l₄ ev n) $

@@ -7,7 +7,7 @@ use lib.ListN.{length, take}
 use lib.Seq.{take-all}
 use Rattle.base.specs.Told.{Tells}
 use Rattle.entry.specs.declared.RamdumpTable64.{RamdumpTable64}
-use Rattle.forecast.specs.Forecast.{forecastOf, forecastTold}
+use Rattle.forecast_sums.specs.Forecast.{forecastOf, forecastChunk as chunk, forecastTold}
 use borrow.Author.Needs.{needs}
 use Rattle.forecast.proofs.forecast_of.Statement.{statement}
 use Rattle.forecast.proofs.forecast_of.Tie as tie
@@ -23,7 +23,7 @@ returns c =
     let a = c .before .before .before .args in
     let l : length (a .entries) ≡ 8 = eight c in
     let e : take 8 (a .entries) ≡ take (a .n) (a .entries) = take-all 8 (a .entries) (omega arith) ∙ sym (take-all (a .n) (a .entries) (omega arith)) in
-    subst (λ (x : List RamdumpTable64). Tells forecastTold (c .forecast-lent .result) (forecastOf 4096 x (now (a .names)))) e (c .forecast-lent .ensures)
+    subst (λ (x : List RamdumpTable64). Tells forecastTold (c .forecast-lent .result) (forecastOf chunk x (now (a .names)))) e (c .forecast-lent .ensures)
 
 forecast-lent-requires-2 : tie.Need-forecast-lent-requires-2
 forecast-lent-requires-2 c κs = search needs

@@ -7,23 +7,24 @@ use native.Mathlib.Omega.{arith}
 use denote.Ref.{now}
 use lib.ListN.{length}
 use Rattle.field.specs.Field.{fieldSize}
-use Rattle.entry.specs.Entry.{entriesIn, entryIn, entriesFrom, entriesOf}
+use Rattle.entry.specs.Entry.{entriesIn, entryIn, entriesOf}
 use Rattle.entry.specs.declared.EntryAt.{EntryAt}
 use Rattle.entry.specs.declared.RamdumpTable64.{RamdumpTable64}
 use Rattle.entry.proofs.Laws.{entry-found, length-entries}
 use Rattle.selection.proofs.Laws.{next-from, next-selected}
 use Rattle.base.proofs.Telling.{tells}
-use Rattle.forecast.specs.Forecast.{forecastTold}
-use Rattle.forecast.specs.Sums.{startOf, moreOf, addAll, foreseenOf}
-use Rattle.forecast.specs.declared.Sums.{Sums}
-use Rattle.forecast.proofs.Laws.{Searched, begins, goes-on, finished, sums-are}
+use Rattle.forecast_sums.specs.Forecast.{forecastChunk as chunk, forecastTold}
+use Rattle.forecast_sums.specs.Sums.{startOf, moreOf, addAll, foreseenOf}
+use Rattle.forecast_sums.specs.declared.Sums.{Sums}
+use Rattle.forecast_sums.proofs.Laws.{sums-are}
+use Rattle.forecast.proofs.Search.{Searched, begins, goes-on, finished}
 use borrow.Author.Needs.{needs}
 use Rattle.forecast.proofs.forecast_table.Statement.{statement}
 use Rattle.forecast.proofs.forecast_table.Tie as tie
 
 abbrev Inv-loop : tie.InvT-loop
 Inv-loop table width names s₀ n i₀ s i =
-    Searched 4096 names (fieldSize width) table n i s (addAll 4096 names s₀ (entriesFrom (fieldSize width) table n 0))
+    Searched chunk names (fieldSize width) table n i s (addAll chunk names s₀ (entriesOf (fieldSize width) table))
 
 abbrev μ-loop : tie.MeasureT-loop
 μ-loop table width names s₀ n i₀ s i = n - i
@@ -41,8 +42,8 @@ loop-holds : tie.Need-loop-holds Inv-loop μ-loop
 loop-holds c =
     let w = c .before in
     let a = w .before .before .before .before .args in
-    begins 4096 (now (a .names)) (fieldSize (a .width)) (now (a .table)) (w .entries-in .result) (c .next-selected .result) (w .before .start .result)
-    (omega (arith, w .entries-in .ensures)) (c .next-selected .ensures)
+    begins chunk (now (a .names)) (fieldSize (a .width)) (now (a .table)) (w .entries-in .result) (c .next-selected .result) (w .before .start .result)
+    (w .entries-in .ensures) (c .next-selected .ensures)
 
 entry-at-requires : tie.Need-entry-at-requires Inv-loop μ-loop
 entry-at-requires c κs = search needs
@@ -76,8 +77,8 @@ loop-again c =
     let n : ℕ = w .entries-in .result in
     let q : e .entry-at .result .entry ≡ entryIn f t (l .i) =
     ap (λ (x : EntryAt). x .entry) (e .entry-at .ensures) ∙ entry-found f t (l .i) (omega (arith, w .entries-in .ensures)) in
-    goes-on 4096 (now (a .names)) f t n (l .i) (c .next-selected2 .result) (l .s) (m .more .result) _ (omega (arith, w .entries-in .ensures)) (omega arith)
-    (l .inv) (m .more .ensures ∙ ap (λ (x : RamdumpTable64). moreOf 4096 (l .s) (x .len)) q) (c .next-selected2 .ensures)
+    goes-on chunk (now (a .names)) f t n (l .i) (c .next-selected2 .result) (l .s) (m .more .result) _ (omega (arith, w .entries-in .ensures)) (omega arith)
+    (l .inv) (m .more .ensures ∙ ap (λ (x : RamdumpTable64). moreOf chunk (l .s) (x .len)) q) (c .next-selected2 .ensures)
 
 finish-requires : tie.Need-finish-requires Inv-loop μ-loop
 finish-requires c κs = search needs
@@ -90,14 +91,12 @@ returns c =
     let f : ℕ = fieldSize (a .width) in
     let t : List ℕ = now (a .table) in
     let names : List ℕ = now (a .names) in
-    let n : w .entries-in .result ≡ entriesIn f (length t) = w .entries-in .ensures in
-    let whole : l .s ≡ addAll 4096 names (startOf names) (entriesOf f t) =
-    sym (finished 4096 names f t (w .entries-in .result) (l .i) (l .s) (omega arith)) ∙ l .inv .same
-    ∙ ap (λ (x : Sums). addAll 4096 names x (entriesFrom f t (w .entries-in .result) 0)) (w .before .start .ensures)
-    ∙ ap (λ (j : ℕ). addAll 4096 names (startOf names) (entriesFrom f t j 0)) n in
+    let whole : l .s ≡ addAll chunk names (startOf names) (entriesOf f t) =
+    sym (finished chunk names f t (w .entries-in .result) (l .i) (l .s) (omega arith)) ∙ l .inv .same
+    ∙ ap (λ (x : Sums). addAll chunk names x (entriesOf f t)) (w .before .start .ensures) in
     tells forecastTold
     (c .finish .ensures ∙ ap foreseenOf whole
-    ∙ sums-are 4096 names (entriesOf f t) (rw (length-entries f t (entriesIn f (length t)) 0) (omega arith)))
+    ∙ sums-are chunk names (entriesOf f t) (rw (length-entries f t (entriesIn f (length t)) 0) (omega arith)))
 
 pub forecast-table-spec : {M : Type 1} → statement M
 forecast-table-spec =

@@ -1,16 +1,13 @@
 -- `host::phase_step` meets its contract: each phase's own contract, by the phase. Assumes nothing.
 use mathlib.Core.Path.{sym, ap, _∙_}
-use Prim.Native.Nat.{_<_, _≤_}
-use native.Mathlib.Omega.{arith}
 use borrow.Author.Tests.{lt-ltb, le-ltb}
 use denote.Ref.{now}
-use lib.ListN.{length}
 use Rattle.base.proofs.Telling.{tells}
 use Rattle.session.specs.Answers.{outcomeTold}
 use Rattle.session.specs.declared.Phase.{Phase}
 use Rattle.session.specs.declared.Stepped.{Stepped}
 use Rattle.session.specs.Outcome.{Outcome, outcome}
-use Rattle.host.specs.Host.{phaseStep}
+use Rattle.session.specs.Guard.{phaseStep}
 use borrow.Author.Needs.{needs}
 use Rattle.host.proofs.phase_step.Statement.{statement}
 use Rattle.host.proofs.phase_step.Tie as tie
@@ -57,20 +54,20 @@ enum-known-p-6 c = c .match .keys6
 region-step-requires : tie.Need-region-step-requires
 region-step-requires c κs = tt
 
-enum-known-p-7 : tie.Need-enum-known-p-7
-enum-known-p-7 c = c .match .keys7
+enum-told : tie.Need-enum-told
+enum-told c = c .match .keys7
 
 untouched-requires : tie.Need-untouched-requires
 untouched-requires c κs = tt
 
 returns : tie.Need-returns
 returns c =
-    let g = c .before .before .before .before .before .before .before .before .before .before .before in
+    let i = c .before in
+    let g = i .before .before .before .before .before .before .before .before .before in
     let a = g .args in
-    let l : length (now (a .out)) < 48 = omega arith in
     tells outcomeTold
     (ap (λ (r : Stepped). outcome r (now (a .table)) (now (a .reply)) (now (a .out))) (c .untouched .ensures)
-    ∙ sym (ap (lent g) (c .before .before .before .p7 .given .1) ∙ simp (lt-ltb _ _ l)))
+    ∙ sym (ap (lent g) (i .before .enum-told .given .1) ∙ simp (lt-ltb _ _ (i .if1 .taken))))
 
 untouched-requires-2 : tie.Need-untouched-requires-2
 untouched-requires-2 c κs = tt
@@ -173,12 +170,12 @@ returns-7 c =
 
 returns-8 : tie.Need-returns-8
 returns-8 c =
-    let g = c .before .before .before .before .before .before .before .before .before .before .before in
+    let i = c .before in
+    let g = i .before .before .before .before .before .before .before .before .before in
     let a = g .args in
-    let l : 48 ≤ length (now (a .out)) = omega arith in
     tells outcomeTold
     (ap (λ (r : Stepped). outcome r (now (a .table)) (now (a .reply)) (now (a .out))) (c .untouched2 .ensures)
-    ∙ sym (ap (lent g) (c .before .before .before .p7 .given .1) ∙ simp (le-ltb _ _ l)))
+    ∙ sym (ap (lent g) (i .before .enum-told .given .1) ∙ simp (le-ltb _ _ (i .if1 .left))))
 
 pub phase-step-spec : {M : Type 1} → statement M
 phase-step-spec =
@@ -196,7 +193,7 @@ phase-step-spec =
     between-step-requires
     enum-known-p-6
     region-step-requires
-    enum-known-p-7
+    enum-told
     untouched-requires
     returns
     untouched-requires-2

@@ -1,25 +1,23 @@
 -- `image::image_range` meets its contract: by the check's answer the set is well-formed or refused. Assumes nothing.
-use mathlib.Core.Path.{_≡_, sym, _∙_}
+use mathlib.Core.Path.{sym, _∙_}
 use mathlib.Core.Bool.{true}
 use denote.Ref.{now}
-use Rattle.bundle.specs.Bundle.{wellFormed, imagesChecked}
-use Rattle.bundle.specs.declared.Checked.the-variants as C
+use Rattle.bundle.specs.Bundle.{wellFormed}
 use Rattle.bundle.proofs.Laws.{checked-good, checked-refused}
 use Rattle.base.proofs.Telling.{tells}
 use Rattle.image.specs.Image.{rangeTold}
 use Rattle.image.proofs.Laws.{range-formed, range-malformed}
-use borrow.Author.Needs.{needs}
 use Rattle.image.proofs.image_range.Statement.{statement}
 use Rattle.image.proofs.image_range.Tie as tie
 
 check-images-requires : tie.Need-check-images-requires
-check-images-requires c κs = search needs
+check-images-requires c κs = tt
 
 enum-told : tie.Need-enum-told
-enum-told c = search needs
+enum-told c = c .match .keys1
 
 enum-told-2 : tie.Need-enum-told-2
-enum-told-2 c = search needs
+enum-told-2 c = c .match .keys2
 
 returns : tie.Need-returns
 returns c =
@@ -29,13 +27,13 @@ returns c =
     tells rangeTold (sym (range-malformed B (a .id .0) (a .offset) (a .len) (checked-refused (wellFormed true B) 1 _ e)))
 
 image-range-unjudged-requires : tie.Need-image-range-unjudged-requires
-image-range-unjudged-requires c κs = search needs
+image-range-unjudged-requires c κs = tt
 
 returns-2 : tie.Need-returns-2
 returns-2 c =
     let a = c .before .before .before .before .before .args in
     let B = now (a .set) in
-    let e : imagesChecked B ≡ C.Good = cc in
+    let e = sym (c .before .before .before .check-images .ensures .is) ∙ c .before .enum-told .given .1 in
     let f = range-formed B (a .id .0) (a .offset) (a .len) (checked-good (wellFormed true B) 1 e) in
     tells rangeTold (c .image-range-unjudged .ensures .is ∙ sym f)
 

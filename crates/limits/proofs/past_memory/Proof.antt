@@ -4,13 +4,13 @@ use Rattle.limits.proofs.past_memory.Statement.{statement}
 use Rattle.limits.proofs.past_memory.Tie as tie
 
 enum-told : tie.Need-enum-told
-enum-told c = search needs
+enum-told c = c .match .keys1
 
 past32-requires : tie.Need-past32-requires
 past32-requires c κs = search needs
 
 enum-told-2 : tie.Need-enum-told-2
-enum-told-2 c = search needs
+enum-told-2 c = c .match .keys2
 
 past64-requires : tie.Need-past64-requires
 past64-requires c κs = search needs

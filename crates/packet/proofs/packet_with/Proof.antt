@@ -6,10 +6,10 @@ use Rattle.packet.proofs.packet_with.Statement.{statement}
 use Rattle.packet.proofs.packet_with.Tie as tie
 
 enum-known-body : tie.Need-enum-known-body
-enum-known-body c = search needs
+enum-known-body c = c .match .keys1
 
 enum-told : tie.Need-enum-told
-enum-told c = search needs
+enum-told c = c .match .keys2
 
 returns : tie.Need-returns
 returns c =

@@ -8,7 +8,7 @@ enum-known-v : tie.Need-enum-known-v
 enum-known-v c = c .match .keys1
 
 next-requires : tie.Need-next-requires
-next-requires c κs = search needs
+next-requires c κs = tt
 
 sent-requires : tie.Need-sent-requires
 sent-requires c κs = search needs
@@ -35,7 +35,7 @@ enum-known-v-4 : tie.Need-enum-known-v-4
 enum-known-v-4 c = c .match .keys5
 
 next-requires-2 : tie.Need-next-requires-2
-next-requires-2 c κs = search needs
+next-requires-2 c κs = tt
 
 sent-requires-2 : tie.Need-sent-requires-2
 sent-requires-2 c κs = search needs
@@ -44,7 +44,7 @@ enum-known-v-5 : tie.Need-enum-known-v-5
 enum-known-v-5 c = c .match .keys6
 
 next-requires-3 : tie.Need-next-requires-3
-next-requires-3 c κs = search needs
+next-requires-3 c κs = tt
 
 sent-requires-3 : tie.Need-sent-requires-3
 sent-requires-3 c κs = search needs

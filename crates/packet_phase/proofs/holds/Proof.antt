@@ -1,11 +1,10 @@
 -- `packet_phase::holds` meets its contract: the session is that of `next`. Assumes nothing.
 use mathlib.Core.Path.{refl}
-use borrow.Author.Needs.{needs}
 use Rattle.packet_phase.proofs.holds.Statement.{statement}
 use Rattle.packet_phase.proofs.holds.Tie as tie
 
 next-requires : tie.Need-next-requires
-next-requires c κs = search needs
+next-requires c κs = tt
 
 returns : tie.Need-returns
 returns c =

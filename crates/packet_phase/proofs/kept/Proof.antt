@@ -12,16 +12,16 @@ use Rattle.packet_phase.proofs.kept.Statement.{statement}
 use Rattle.packet_phase.proofs.kept.Tie as tie
 
 rest-requires : tie.Need-rest-requires
-rest-requires c κs = search needs
+rest-requires c κs = tt
 
 least-requires : tie.Need-least-requires
-least-requires c κs = search needs
+least-requires c κs = tt
 
 slice-aggregate-copy-into : tie.Need-slice-aggregate-copy-into
 slice-aggregate-copy-into c = search needs
 
 copy-into-requires : tie.Need-copy-into-requires
-copy-into-requires c κs = search needs
+copy-into-requires c κs = tt
 
 returns : tie.Need-returns
 returns c =

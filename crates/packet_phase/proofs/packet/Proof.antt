@@ -12,16 +12,16 @@ use Rattle.packet_phase.proofs.packet.Statement.{statement}
 use Rattle.packet_phase.proofs.packet.Tie as tie
 
 kept-requires : tie.Need-kept-requires
-kept-requires c κs = search needs
+kept-requires c κs = tt
 
 rest-requires : tie.Need-rest-requires
-rest-requires c κs = search needs
+rest-requires c κs = tt
 
 add-holds : tie.Need-add-holds
 add-holds c = search needs
 
 holds-requires : tie.Need-holds-requires
-holds-requires c κs = search needs
+holds-requires c κs = tt
 
 returns : tie.Need-returns
 unfolding packetOf
@@ -32,7 +32,7 @@ returns c =
     simp (lt-ltb _ _ l, c .holds .ensures, c .before .before .before .kept .ensures)
 
 length-in-requires : tie.Need-length-in-requires
-length-in-requires c κs = search needs
+length-in-requires c κs = tt
 
 body-requires : tie.Need-body-requires
 body-requires c κs = search needs

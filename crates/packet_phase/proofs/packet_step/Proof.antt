@@ -10,13 +10,13 @@ use Rattle.packet_phase.proofs.packet_step.Statement.{statement}
 use Rattle.packet_phase.proofs.packet_step.Tie as tie
 
 held-limit-requires : tie.Need-held-limit-requires
-held-limit-requires c κs = search needs
+held-limit-requires c κs = tt
 
 guard-requires : tie.Need-guard-requires
-guard-requires c κs = search needs
+guard-requires c κs = tt
 
 untouched-requires : tie.Need-untouched-requires
-untouched-requires c κs = search needs
+untouched-requires c κs = tt
 
 same-length : tie.Need-same-length
 same-length c = search needs

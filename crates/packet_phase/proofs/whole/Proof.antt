@@ -15,13 +15,13 @@ use Rattle.packet_phase.proofs.whole.Statement.{statement}
 use Rattle.packet_phase.proofs.whole.Tie as tie
 
 length-in-requires : tie.Need-length-in-requires
-length-in-requires c κs = search needs
+length-in-requires c κs = tt
 
 cast-least : tie.Need-cast-least
 cast-least c = search needs
 
 least-requires : tie.Need-least-requires
-least-requires c κs = search needs
+least-requires c κs = tt
 
 array-share-prefix-w : tie.Need-array-share-prefix-w
 array-share-prefix-w c = search needs
@@ -33,7 +33,7 @@ slice-aggregate-judge c =
     sym (length-take-le _ (a .t3) l)
 
 judge-requires : tie.Need-judge-requires
-judge-requires c κs = search needs
+judge-requires c κs = tt
 
 act-requires : tie.Need-act-requires
 act-requires c κs = search needs

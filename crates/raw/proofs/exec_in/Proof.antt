@@ -4,10 +4,10 @@ use Rattle.raw.proofs.exec_in.Statement.{statement}
 use Rattle.raw.proofs.exec_in.Tie as tie
 
 enum-known-c : tie.Need-enum-known-c
-enum-known-c c = search needs
+enum-known-c c = c .match .keys1
 
 enum-told : tie.Need-enum-told
-enum-told c = search needs
+enum-told c = c .match .keys2
 
 returns : tie.Need-returns
 returns c = cc

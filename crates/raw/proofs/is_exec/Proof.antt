@@ -9,10 +9,10 @@ command-of-requires : tie.Need-command-of-requires
 command-of-requires c κs = search needs
 
 enum-told : tie.Need-enum-told
-enum-told c = search needs
+enum-told c = c .match .keys1
 
 enum-told-2 : tie.Need-enum-told-2
-enum-told-2 c = search needs
+enum-told-2 c = c .match .keys2
 
 returns : tie.Need-returns
 returns c = sym (ap (execNamed _) (sym (c .before .before .command-of .ensures) ∙ c .enum-told .given .1))

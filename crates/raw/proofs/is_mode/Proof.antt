@@ -9,10 +9,10 @@ mode-of-requires : tie.Need-mode-of-requires
 mode-of-requires c κs = search needs
 
 enum-told : tie.Need-enum-told
-enum-told c = search needs
+enum-told c = c .match .keys1
 
 enum-told-2 : tie.Need-enum-told-2
-enum-told-2 c = search needs
+enum-told-2 c = c .match .keys2
 
 returns : tie.Need-returns
 returns c = sym (ap modeNamed (sym (c .before .before .mode-of .ensures) ∙ c .enum-told .given .1))

@@ -1,19 +1,18 @@
 -- `raw::told` meets its contract: field by field. Assumes nothing.
-use borrow.Author.Needs.{needs}
 use Rattle.raw.proofs.told.Statement.{statement}
 use Rattle.raw.proofs.told.Tie as tie
 
 first-value-requires : tie.Need-first-value-requires
-first-value-requires c κs = search needs
+first-value-requires c κs = tt
 
 second-value-requires : tie.Need-second-value-requires
-second-value-requires c κs = search needs
+second-value-requires c κs = tt
 
 answer-number-requires : tie.Need-answer-number-requires
-answer-number-requires c κs = search needs
+answer-number-requires c κs = tt
 
 returns : tie.Need-returns
-returns c = cc
+returns c = rw (c .answer-number .ensures, c .before .second-value .ensures, c .before .before .first-value .ensures)
 
 pub told-spec : {M : Type 1} → statement M
 told-spec =

@@ -7,13 +7,13 @@ use Rattle.raw_packet.proofs.raw_packet.Statement.{statement}
 use Rattle.raw_packet.proofs.raw_packet.Tie as tie
 
 enum-known-d : tie.Need-enum-known-d
-enum-known-d c = search needs
+enum-known-d c = c .match .keys1
 
 body-packet-requires : tie.Need-body-packet-requires
 body-packet-requires c κs = search needs
 
 enum-known-d-2 : tie.Need-enum-known-d-2
-enum-known-d-2 c = search needs
+enum-known-d-2 c = c .match .keys2
 
 refused-requires : tie.Need-refused-requires
 refused-requires c κs = search needs

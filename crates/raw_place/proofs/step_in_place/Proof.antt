@@ -20,8 +20,8 @@ use Rattle.region_phase.specs.Advance.{advanced, advanceOf}
 use Rattle.region_phase.proofs.Laws.{advance-still}
 use Rattle.raw.specs.declared.RawTold.{RawTold}
 use Rattle.raw.specs.Raw.{openingOf, widthOf, toldOf, steppedAt}
-use Rattle.raw_step.specs.RawStep.{rawOutcome, rawAt, stepRaw}
-use Rattle.raw_place.specs.Place.{inRegion, regionAt}
+use Rattle.in_place.specs.Place.{rawAt, inRegion, regionAt}
+use Rattle.raw_step.specs.RawStep.{rawOutcome, stepRaw}
 use Rattle.raw_place.proofs.Repeats.{no, counts-are, waits-are, lent-empty}
 use borrow.Author.Needs.{needs}
 use Rattle.raw_place.proofs.step_in_place.Statement.{statement}
@@ -127,7 +127,7 @@ advance-region-requires : tie.Need-advance-region-requires
 advance-region-requires c κs = tt
 
 enum-known-a : tie.Need-enum-known-a
-enum-known-a c = search needs
+enum-known-a c = c .match .keys1
 
 count-requires : tie.Need-count-requires
 count-requires c κs = tt

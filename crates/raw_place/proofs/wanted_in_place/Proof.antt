@@ -15,10 +15,10 @@ element-copy-out-if1 : tie.Need-element-copy-out-if1
 element-copy-out-if1 c = search needs
 
 in-region-requires : tie.Need-in-region-requires
-in-region-requires c κs = search needs
+in-region-requires c κs = tt
 
 waits-at-requires : tie.Need-waits-at-requires
-waits-at-requires c κs = search needs
+waits-at-requires c κs = tt
 
 returns : tie.Need-returns
 returns c =
@@ -34,10 +34,10 @@ returns-2 c =
     wanted-none (now (a .head)) (now (a .numbers)) (now (a .window)) (i .before .if1 .taken) (sym (i .in-region .ensures) ∙ c .if2 .left)
 
 raw-at-requires : tie.Need-raw-at-requires
-raw-at-requires c κs = search needs
+raw-at-requires c κs = tt
 
 wanted-requires : tie.Need-wanted-requires
-wanted-requires c κs = search needs
+wanted-requires c κs = tt
 
 returns-3 : tie.Need-returns-3
 returns-3 c = c .wanted .ensures ∙ ap wantedRaw (c .before .raw-at .ensures)

@@ -1,16 +1,16 @@
 -- `raw_records::raw_forecast` meets its contract: by the cases. Assumes nothing.
 use mathlib.Core.Path.{_≡_, sym, ap}
-use Rattle.forecast.specs.declared.Foreseen.the-variants as F
+use Rattle.forecast_sums.specs.declared.Foreseen.the-variants as F
 use Rattle.raw_records.specs.Records.{rawForecast}
 use borrow.Author.Needs.{needs}
 use Rattle.raw_records.proofs.raw_forecast.Statement.{statement}
 use Rattle.raw_records.proofs.raw_forecast.Tie as tie
 
 enum-known-x : tie.Need-enum-known-x
-enum-known-x c = search needs
+enum-known-x c = c .match .keys1
 
 enum-known-x-2 : tie.Need-enum-known-x-2
-enum-known-x-2 c = search needs
+enum-known-x-2 c = c .match .keys2
 
 cast-t7 : tie.Need-cast-t7
 cast-t7 c = search needs

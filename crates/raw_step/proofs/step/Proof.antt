@@ -8,12 +8,13 @@ use Rattle.bundle.specs.Bundle.{wellFormed}
 use Rattle.bundle.proofs.Laws.{checked-good, checked-refused}
 use Rattle.session.specs.declared.Answer.the-variants as A
 use Rattle.session.specs.Outcome.{outcome}
-use Rattle.host.specs.Host.{phaseStep}
+use Rattle.session.specs.Guard.{phaseStep}
 use Rattle.raw.specs.declared.RawSession.{RawSession}
 use Rattle.raw.specs.declared.RawStepped.{RawStepped}
 use Rattle.raw.specs.declared.RawTold.{RawTold}
 use Rattle.raw.specs.Raw.{phaseOf, sessionOf, isSession, toldOf, steppedAt}
-use Rattle.raw_step.specs.RawStep.{rawOutcome, rawOutcomeOf, rawAt}
+use Rattle.in_place.specs.Place.{rawAt}
+use Rattle.raw_step.specs.RawStep.{rawOutcome, rawOutcomeOf}
 use Rattle.raw_step.proofs.Laws.{step-images, step-names, step-none, step-formed}
 use borrow.Author.Needs.{needs}
 use Rattle.raw_step.proofs.step.Statement.{statement}

@@ -1,12 +1,11 @@
 -- `region_phase::advance_region` meets its contract: test by test, and what passes is within its limits. Assumes nothing.
 use mathlib.Core.Path.{sym, _∙_}
 use Prim.Native.Nat.{_+_, _^_}
-use native.Mathlib.Omega.{arith}
 use denote.Ref.{now}
 use borrow.Author.Tests.{lt-ltb, le-ltb, ltb-false}
 use Rattle.field.specs.Field.{fieldSize}
 use Rattle.region_phase.specs.Advance.{advanceOf}
-use Rattle.region_phase.proofs.Laws.{region-within}
+use Rattle.region_phase.proofs.Laws.{region-within, none-done}
 use borrow.Author.Needs.{needs}
 use Rattle.region_phase.proofs.advance_region.Statement.{statement}
 use Rattle.region_phase.proofs.advance_region.Tie as tie
@@ -16,14 +15,14 @@ unfolding advanceOf
 returns c = simp (lt-ltb _ _ (c .if1 .taken))
 
 reads-limit-requires : tie.Need-reads-limit-requires
-reads-limit-requires c κs = search needs
+reads-limit-requires c κs = tt
 
 returns-2 : tie.Need-returns-2
 unfolding advanceOf
 returns-2 c = simp (le-ltb _ _ (c .before .before .if1 .left), sym (c .before .reads-limit .ensures) ∙ c .if2 .taken)
 
 region-limit-requires : tie.Need-region-limit-requires
-region-limit-requires c κs = search needs
+region-limit-requires c κs = tt
 
 returns-3 : tie.Need-returns-3
 unfolding advanceOf
@@ -38,10 +37,10 @@ advance-within-requires c κs =
     let r = l .before .before in
     let a = r .before .before .before .before .before .args in
     let w = region-within (fieldSize (a .width)) (a .k) (a .x) (now (a .table)) (sym (l .before .region-limit .ensures) ∙ l .if3 .left) in (
-      omega arith,
+      r .before .before .if1 .left,
       ltb-false (2 ^ 63 + 1) (a .reads) (sym (r .before .reads-limit .ensures) ∙ r .if2 .left),
       w .counts,
-      λ n. w .ends (λ q. n (omega arith)),
+      λ n. w .ends (λ q. n (none-done (a .x .done) (a .x .outstanding) q)),
     )
 
 same-length : tie.Need-same-length

@@ -1,6 +1,5 @@
 -- `region_phase::advance_within` meets its contract: test by test. Assumes nothing.
 use mathlib.Core.Path.{_≡_}
-use native.Mathlib.Omega.{arith}
 use borrow.Author.Tests.{eq-eqb, ne-eqb, le-leb, lt-leb}
 use Rattle.region_phase.specs.Advance.{advanceWithin}
 use borrow.Author.Needs.{needs}
@@ -8,7 +7,7 @@ use Rattle.region_phase.proofs.advance_within.Statement.{statement}
 use Rattle.region_phase.proofs.advance_within.Tie as tie
 
 recount-requires : tie.Need-recount-requires
-recount-requires c κs = search needs
+recount-requires c κs = tt
 
 returns : tie.Need-returns
 unfolding advanceWithin
@@ -27,7 +26,7 @@ returns-3 c =
 ask-requires : tie.Need-ask-requires
 ask-requires c κs =
     let b = c .before .before .before .before .before .before .before .before .before in
-    (omega arith, omega arith, b .pre .3 (λ q. omega arith), omega arith)
+    (b .pre .0, c .before .if4 .left, b .pre .3 (c .before .before .before .if3 .left), b .pre .1)
 
 same-length : tie.Need-same-length
 same-length c = search needs
@@ -47,7 +46,7 @@ unfolding advanceWithin
 returns-5 c = simp (c .before .before .before .if1 .left, ne-eqb _ _ (c .before .if2 .left), eq-eqb _ _ (c .if5 .taken))
 
 hand-out-requires : tie.Need-hand-out-requires
-hand-out-requires c κs = search needs
+hand-out-requires c κs = c .before .before .before .before .before .pre .2
 
 returns-6 : tie.Need-returns-6
 unfolding advanceWithin

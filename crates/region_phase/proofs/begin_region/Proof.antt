@@ -31,19 +31,19 @@ tested c =
     (entry-told (fieldSize (a .s .width)) (now (a .table)) (a .x .entry) (c .before .before .before .before .entry-at .ensures) (begun c .pre .1))
 
 entry-at-requires : tie.Need-entry-at-requires
-entry-at-requires c κs = search needs
+entry-at-requires c κs = tt
 
 slice-aggregate-check-after-open : tie.Need-slice-aggregate-check-after-open
 slice-aggregate-check-after-open c = search needs
 
 check-after-open-requires : tie.Need-check-after-open-requires
-check-after-open-requires c κs = search needs
+check-after-open-requires c κs = tt
 
 enum-known-check : tie.Need-enum-known-check
-enum-known-check c = search needs
+enum-known-check c = c .match .keys1
 
 moved-requires : tie.Need-moved-requires
-moved-requires c κs = search needs
+moved-requires c κs = tt
 
 returns : tie.Need-returns
 returns c =
@@ -52,16 +52,16 @@ returns c =
     simp (sym (tested k) ∙ c .before .before .check .given .1, c .moved .ensures)
 
 enum-told : tie.Need-enum-told
-enum-told c = search needs
+enum-told c = c .match .keys2
 
 past-memory-requires : tie.Need-past-memory-requires
-past-memory-requires c κs = search needs
+past-memory-requires c κs = tt
 
 past-end-requires : tie.Need-past-end-requires
-past-end-requires c κs = search needs
+past-end-requires c κs = tt
 
 moved-requires-2 : tie.Need-moved-requires-2
-moved-requires-2 c κs = search needs
+moved-requires-2 c κs = tt
 
 returns-2 : tie.Need-returns-2
 returns-2 c =
@@ -96,10 +96,11 @@ ask-requires c κs =
     let m = e .before in
     let b = begun (m .before .before .before) in
     let x = b .args .x in
-    (b .pre .0, omega arith, ltb-false (256 ^ fieldSize (b .args .s .width)) (x .base + x .len) (sym (m .past-memory .ensures) ∙ e .if1 .left), b .pre .2)
+    let z = ltb-false (256 ^ fieldSize (b .args .s .width)) (x .base + x .len) (sym (m .past-memory .ensures) ∙ e .if1 .left) in
+    (b .pre .0, c .before .before .if2 .left, z, b .pre .2)
 
 counted-in-requires : tie.Need-counted-in-requires
-counted-in-requires c κs = search needs
+counted-in-requires c κs = tt
 
 same-length : tie.Need-same-length
 same-length c = search needs

@@ -1,13 +1,10 @@
 -- `region_phase::region_step` meets its contract: the step over the counts, put into the session, by `advance-is`. Assumes nothing.
-use mathlib.Core.Path.{_≡_, sym, ap, _∙_}
-use native.Mathlib.Omega.{arith}
+use mathlib.Core.Path.{_≡_, sym, ap, subst, _∙_}
 use mathlib.Core.List.{List}
-use Prim.Native.Nat.{ℕ, _+_, _*_, _≤_}
-use native.Mathlib.Nat.{le-div-iff-mul-le}
+use Prim.Native.Nat.{ℕ, _≤_}
 use denote.Ref.{now}
 use lib.ListN.{length}
 use Rattle.field.specs.Field.{fieldSize}
-use Rattle.entry.specs.Entry.{entrySize}
 use Rattle.session.specs.declared.Stepped.{Stepped}
 use Rattle.base.proofs.Telling.{tells}
 use Rattle.session.specs.Answers.{outcomeTold}
@@ -17,7 +14,16 @@ use Rattle.turn.proofs.Laws.{entry-within}
 use Rattle.region_phase.specs.Advance.{Advanced, advanced, onAdvance}
 use Rattle.region_phase.specs.declared.Advance.{Advance}
 use Rattle.region_phase.specs.declared.Advance.the-variants as D
-use Rattle.region_phase.proofs.Laws.{advance-is, advance-still, advance-passed, Passed}
+use Rattle.region_phase.proofs.Laws.{
+  advance-is,
+  advance-still,
+  advance-passed,
+  Passed,
+  refused≢begins,
+  refused≢closes,
+  begins≢to,
+  next-fits,
+}
 use borrow.Author.Needs.{needs}
 use Rattle.region_phase.proofs.region_step.Statement.{statement}
 use Rattle.region_phase.proofs.region_step.Tie as tie
@@ -48,28 +54,28 @@ passed g v e never =
     (λ why q. never why (ap (λ (z : Advanced). z .advance) q ∙ e)) (sym (g .advance-region .ensures))
 
 advance-region-requires : tie.Need-advance-region-requires
-advance-region-requires c κs = search needs
+advance-region-requires c κs = tt
 
 enum-known-a : tie.Need-enum-known-a
-enum-known-a c = search needs
+enum-known-a c = c .match .keys1
 
 untouched-requires : tie.Need-untouched-requires
-untouched-requires c κs = search needs
+untouched-requires c κs = tt
 
 enum-told : tie.Need-enum-told
-enum-told c = search needs
+enum-told c = c .match .keys2
 
 waits-requires : tie.Need-waits-requires
-waits-requires c κs = search needs
+waits-requires c κs = tt
 
 enum-known-a-2 : tie.Need-enum-known-a-2
-enum-known-a-2 c = search needs
+enum-known-a-2 c = c .match .keys3
 
 counted-in-requires : tie.Need-counted-in-requires
-counted-in-requires c κs = search needs
+counted-in-requires c κs = tt
 
 enum-told-2 : tie.Need-enum-told-2
-enum-told-2 c = search needs
+enum-told-2 c = c .match .keys4
 
 begin-region-requires : tie.Need-begin-region-requires
 begin-region-requires c κs =
@@ -77,25 +83,23 @@ begin-region-requires c κs =
     let g = s .before .before .before .before in
     let a = begun g .args in
     let e = s .enum-told2 .given .1 in
-    let p = passed g D.Begins e (λ why q. let z : _≡_ {A = ℕ} 0 1 = cc in omega arith) in
+    let p = passed g D.Begins e refused≢begins in
     let h : after g ≡ now (a .out) =
-    advance-still (a .s .width) (a .s .opening) (a .s .reads) (a .x) (length (now (a .delivery))) (now (a .out)) (λ n q. let z : _≡_ {A = ℕ} 0 1 = cc in omega arith)
+    advance-still (a .s .width) (a .s .opening) (a .s .reads) (a .x) (length (now (a .delivery))) (now (a .out)) begins≢to
     (a .k) (now (a .table)) (sym (g .advance-region .ensures) ∙ ap (λ (z : Advance). advanced z (after g)) e) in
     let w = p .within in
-    (omega (arith, ap length h, p .room), entry-within (fieldSize (a .s .width)) (a .k) (a .x .entry) (now (a .table)) (w .entry) (w .table), p .reads)
+    let room = subst (λ (z : List ℕ). 48 ≤ length z) (sym h) (p .room) in
+    (room, entry-within (fieldSize (a .s .width)) (a .k) (a .x .entry) (now (a .table)) (w .entry) (w .table), p .reads)
 
 enum-told-3 : tie.Need-enum-told-3
-enum-told-3 c = search needs
+enum-told-3 c = c .match .keys5
 
 close-requires : tie.Need-close-requires
 close-requires c κs =
     let g = c .before .before .before .before in
     let a = begun g .args in
-    let p = passed g D.Closes (c .enum-told3 .given .1) (λ why q. let z : _≡_ {A = ℕ} 0 1 = cc in omega arith) in
-    let w = p .within in
-    let n : ℕ = entrySize (fieldSize (a .s .width)) in
-    let h : (a .x .entry + 1) * n ≤ a .k = le-div-iff-mul-le {k = n} (omega arith) .0 (omega arith) in
-    omega arith
+    let p = passed g D.Closes (c .enum-told3 .given .1) refused≢closes in
+    next-fits (fieldSize (a .s .width)) (a .k) (a .x .entry) (p .within .entry) (begun g .fits .k)
 
 same-length : tie.Need-same-length
 same-length c = search needs

@@ -90,30 +90,33 @@ names-holds : tie.Need-names-holds Inv-bytes μ-bytes Inv-names μ-names
 names-holds c = (omega arith, refl, refl)
 
 slot-at-requires : tie.Need-slot-at-requires Inv-bytes μ-bytes Inv-names μ-names
-slot-at-requires c κs = search needs
+slot-at-requires c κs = tt
 
 enum-known-s : tie.Need-enum-known-s Inv-bytes μ-bytes Inv-names μ-names
-enum-known-s c = search needs
+enum-known-s c = c .match .keys1
 
 add-i : tie.Need-add-i Inv-bytes μ-bytes Inv-names μ-names
-add-i c = search needs
+add-i c = omega (arith, c .before .before .names-test .taken, c .before .before .before .before .before .before .fits .n)
 
 names-less : tie.Need-names-less Inv-bytes μ-bytes Inv-names μ-names
-names-less c = search needs
+names-less c = omega (arith, c .before .before .names-test .taken)
 
 names-again : tie.Need-names-again Inv-bytes μ-bytes Inv-names μ-names
 names-again c =
     let a = c .before .before .before .before .before .before .args in
     let o = c .before .before .before .names in
     let r = c .before .slot-at in
-    let e = nameless (now (a .names)) (a .n) (now (a .stem)) (o .i) (r .result) (omega arith) (c .match .keys2) (sym (r .ensures .is)) in
-    (omega arith, o .inv .1, o .inv .2 ∙ e)
+    let below = c .before .before .names-test .taken in
+    let e = nameless (now (a .names)) (a .n) (now (a .stem)) (o .i) (r .result) below (c .match .keys2) (sym (r .ensures .is)) in
+    (omega (arith, below), o .inv .1, o .inv .2 ∙ e)
 
 add-i-2 : tie.Need-add-i-2 Inv-bytes μ-bytes Inv-names μ-names
-add-i-2 c = search needs
+add-i-2 c =
+    let n = c .before .before .before .before .before in
+    omega (arith, n .names-test .taken, n .before .before .before .before .fits .n)
 
 names-less-2 : tie.Need-names-less-2 Inv-bytes μ-bytes Inv-names μ-names
-names-less-2 c = search needs
+names-less-2 c = omega (arith, c .before .before .before .before .before .names-test .taken)
 
 names-again-2 : tie.Need-names-again-2 Inv-bytes μ-bytes Inv-names μ-names
 names-again-2 c =
@@ -121,10 +124,10 @@ names-again-2 c =
     let o = c .before .before .before .before .before .before .names in
     let start = c .before .before .s .given .0 .0 in
     let size = c .before .before .s .given .0 .1 .0 in
-    let names : List ℕ = now (a .names) in
-    let stem : List ℕ = now (a .stem) in
-    let e : slotOf names (o .i) ≡ S.At start size = cc in
-    (omega arith, o .inv .1, o .inv .2 ∙ named-unequal names (a .n) stem (o .i) start size (omega arith) e (λ q. omega arith))
+    let below = c .before .before .before .before .before .names-test .taken in
+    let e = sym (c .before .before .before .before .slot-at .ensures .is) ∙ c .before .before .s .given .1 in
+    let u = named-unequal (now (a .names)) (a .n) (now (a .stem)) (o .i) start size below e (λ q. omega (arith, c .if1 .taken, q)) in
+    (omega (arith, below), o .inv .1, o .inv .2 ∙ u)
 
 bytes-holds : tie.Need-bytes-holds Inv-bytes μ-bytes Inv-names μ-names
 bytes-holds c =
@@ -133,14 +136,15 @@ bytes-holds c =
     let start = c .before .before .s .given .0 .0 in
     let size = c .before .before .s .given .0 .1 .0 in
     let names : List ℕ = now (a .names) in
-    let e : slotOf names (o .i) ≡ S.At start size = cc in (
+    let below = c .before .before .before .before .before .names-test .taken in
+    let e = sym (c .before .before .before .before .slot-at .ensures .is) ∙ c .before .before .s .given .1 in (
       o .inv .1,
       record {
-        below = omega arith;
+        below = below;
         within = slot-within names (o .i) start size e;
-        long = omega arith;
+        long = omega (arith, c .if1 .left);
         passed = omega arith;
-        whole = o .inv .2 ∙ named-at names (a .n) (now (a .stem)) (o .i) start size (omega arith) e;
+        whole = o .inv .2 ∙ named-at names (a .n) (now (a .stem)) (o .i) start size below e;
       },
     )
 
@@ -151,28 +155,33 @@ shared-slice-read-lower : tie.Need-shared-slice-read-lower Inv-bytes μ-bytes In
 shared-slice-read-lower c = omega (arith, c .before .before .bytes .inv .1)
 
 lower-requires : tie.Need-lower-requires Inv-bytes μ-bytes Inv-names μ-names
-lower-requires c κs = search needs
+lower-requires c κs = tt
 
 shared-slice-read-lower-2 : tie.Need-shared-slice-read-lower-2 Inv-bytes μ-bytes Inv-names μ-names
 shared-slice-read-lower-2 c = omega (arith, c .before .before .before .before .bytes .inv .1)
 
 lower-requires-2 : tie.Need-lower-requires-2 Inv-bytes μ-bytes Inv-names μ-names
-lower-requires-2 c κs = search needs
+lower-requires-2 c κs = tt
 
 add-j : tie.Need-add-j Inv-bytes μ-bytes Inv-names μ-names
 add-j c = search needs
 
 bytes-less : tie.Need-bytes-less Inv-bytes μ-bytes Inv-names μ-names
-bytes-less c = search needs
+bytes-less c = omega (arith, c .before .before .before .before .before .if2 .left, c .before .before .before .before .before .before .bytes .inv .1)
 
 bytes-again : tie.Need-bytes-again Inv-bytes μ-bytes Inv-names μ-names
 bytes-again c =
     let l = c .before .before .before .before .before .before .bytes in
-    let t = l .inv .1 in
-    (l .inv .0, inside-next t (omega arith) (cc))
+    let t = l .inv .1 in (
+      l .inv .0,
+      inside-next t (omega (arith, c .before .before .before .before .before .if2 .left, t .long))
+          (sym (c .before .before .before .lower .ensures) ∙ c .if3 .left ∙ c .before .lower2 .ensures),
+    )
 
 add-i-3 : tie.Need-add-i-3 Inv-bytes μ-bytes Inv-names μ-names
-add-i-3 c = search needs
+add-i-3 c =
+    let l = c .before .before .before .before .before .before in
+    omega (arith, l .bytes .inv .1 .below, l .before .before .before .before .before .before .before .before .before .before .fits .n)
 
 names-less-3 : tie.Need-names-less-3 Inv-bytes μ-bytes Inv-names μ-names
 names-less-3 c = omega (arith, c .before .before .before .before .before .before .bytes .inv .1)
@@ -180,8 +189,12 @@ names-less-3 c = omega (arith, c .before .before .before .before .before .before
 names-again-3 : tie.Need-names-again-3 Inv-bytes μ-bytes Inv-names μ-names
 names-again-3 c =
     let l = c .before .before .before .before .before .before .bytes in
-    let t = l .inv .1 in
-    (omega arith, l .inv .0, inside-differs t (omega arith) (λ q. c .if3 .taken (cc)))
+    let t = l .inv .1 in (
+      omega (arith, t .below),
+      l .inv .0,
+      inside-differs t (omega (arith, c .before .before .before .before .before .if2 .left, t .long))
+          (λ q. c .if3 .taken (c .before .before .before .lower .ensures ∙ q ∙ sym (c .before .lower2 .ensures))),
+    )
 
 returns : tie.Need-returns Inv-bytes μ-bytes Inv-names μ-names
 returns c =
@@ -189,12 +202,12 @@ returns c =
     let o = c .before .names in
     let names : List ℕ = now (a .names) in
     let stem : List ℕ = now (a .stem) in
-    o .inv .1 ∙ sym (named-all names (a .n) stem ∙ o .inv .2 ∙ named-done names (a .n) stem (o .i) (omega arith))
+    o .inv .1 ∙ sym (named-all names (a .n) stem ∙ o .inv .2 ∙ named-done names (a .n) stem (o .i) (c .names-test .left))
 
 returns-2 : tie.Need-returns-2 Inv-bytes μ-bytes Inv-names μ-names
 returns-2 c =
     let a = c .before .before .before .before .before .before .before .before .before .before .before .args in
-    sym (named-all (now (a .names)) (a .n) (now (a .stem)) ∙ inside-all (c .before .bytes .inv .1) (omega (arith, c .before .bytes .inv .1)))
+    sym (named-all (now (a .names)) (a .n) (now (a .stem)) ∙ inside-all (c .before .bytes .inv .1) (omega (arith, c .before .bytes .inv .1, c .if2 .taken)))
 
 pub named-spec : {M : Type 1} → statement M
 named-spec =

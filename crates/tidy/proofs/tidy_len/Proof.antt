@@ -7,25 +7,23 @@ use native.Mathlib.Omega.{arith}
 use denote.Ref.{now}
 use lib.ListN.{length}
 use Rattle.base.proofs.Telling.{tells}
-use Rattle.bundle.specs.Bundle.{countOf, wellFormed, imagesChecked}
-use Rattle.bundle.specs.declared.Checked.the-variants as C
+use Rattle.bundle.specs.Bundle.{countOf, wellFormed}
 use Rattle.bundle.proofs.Laws.{checked-good, checked-refused, formed}
 use Rattle.writer.specs.Writer.{dataOf, mostData}
 use Rattle.tidied.specs.Tidy.{firstContents, tidyBytes, tidyData, tidiedTold}
 use Rattle.tidied.specs.declared.Tidied.the-variants as T
 use Rattle.tidied.proofs.Laws.{length-tidy, len-malformed, len-passes, len-made}
-use borrow.Author.Needs.{needs}
 use Rattle.tidy.proofs.tidy_len.Statement.{statement}
 use Rattle.tidy.proofs.tidy_len.Tie as tie
 
 check-images-requires : tie.Need-check-images-requires
-check-images-requires c κs = search needs
+check-images-requires c κs = tt
 
 enum-told : tie.Need-enum-told
-enum-told c = search needs
+enum-told c = c .match .keys1
 
 enum-told-2 : tie.Need-enum-told-2
-enum-told-2 c = search needs
+enum-told-2 c = c .match .keys2
 
 returns : tie.Need-returns
 returns c =
@@ -34,10 +32,10 @@ returns c =
     tells tidiedTold (sym (len-malformed B (checked-refused (wellFormed true B) 1 _ e)))
 
 slot-count-requires : tie.Need-slot-count-requires
-slot-count-requires c κs = search needs
+slot-count-requires c κs = tt
 
 data-size-requires : tie.Need-data-size-requires
-data-size-requires c κs = search needs
+data-size-requires c κs = tt
 
 -- behind the check: the set is well-formed, and the sum is the tidy form's, or it passes the most
 pub record Measured (set : List ℕ) (n size : ℕ) : Type 0 where
@@ -45,10 +43,11 @@ pub record Measured (set : List ℕ) (n size : ℕ) : Type 0 where
   pub count : n ≡ countOf set
   pub sum : size ≡ min (mostData + 1) (tidyData set)
 
-measured : (c : tie.After-data-size) → Measured (now (c .before .before .before .before .before .before .args .set)) (c .before .slot-count .result) (c .data-size .result)
+measured : (c : tie.After-data-size)
+    → Measured (now (c .before .before .before .before .before .before .args .set)) (c .before .slot-count .result) (c .data-size .result)
 measured c =
     let B : List ℕ = now (c .before .before .before .before .before .before .args .set) in
-    let e : imagesChecked B ≡ C.Good = cc in
+    let e = sym (c .before .before .before .before .check-images .ensures .is) ∙ c .before .before .enum-told .given .1 in
     record {
       good = checked-good (wellFormed true B) 1 e;
       count = c .before .slot-count .ensures;

@@ -1,7 +1,6 @@
 -- `waiting::needs_bytes` meets its contract: by the phase. Assumes nothing.
 use mathlib.Core.Path.{sym, ap, _∙_}
 use Rattle.waiting.specs.Wanted.{needsBytes}
-use borrow.Author.Needs.{needs}
 use Rattle.waiting.proofs.needs_bytes.Statement.{statement}
 use Rattle.waiting.proofs.needs_bytes.Tie as tie
 
@@ -30,29 +29,25 @@ enum-told-4 : tie.Need-enum-told-4
 enum-told-4 c = c .match .keys7
 
 returns : tie.Need-returns
-returns c = search needs
+returns c = sym (ap needsBytes (c .enum-told .given .1))
 
 returns-2 : tie.Need-returns-2
-returns-2 c =
-    sym (ap needsBytes (c .before .before .p .given .1))
+returns-2 c = sym (ap needsBytes (c .before .before .p .given .1))
 
 returns-3 : tie.Need-returns-3
-returns-3 c = search needs
+returns-3 c = sym (ap needsBytes (c .enum-told2 .given .1))
 
 returns-4 : tie.Need-returns-4
-returns-4 c =
-    sym (ap needsBytes (c .before .before .p2 .given .1))
+returns-4 c = sym (ap needsBytes (c .before .before .p2 .given .1))
 
 returns-5 : tie.Need-returns-5
-returns-5 c = search needs
+returns-5 c = sym (ap needsBytes (c .enum-told3 .given .1))
 
 returns-6 : tie.Need-returns-6
-returns-6 c =
-    let a = c .before .before .before .before .args in
-    (cc) ∙ sym (ap needsBytes (c .before .before .p3 .given .1))
+returns-6 c = c .region-waits .ensures ∙ sym (ap needsBytes (c .before .before .p3 .given .1))
 
 returns-7 : tie.Need-returns-7
-returns-7 c = search needs
+returns-7 c = sym (ap needsBytes (c .enum-told4 .given .1))
 
 pub needs-bytes-spec : {M : Type 1} → statement M
 needs-bytes-spec =

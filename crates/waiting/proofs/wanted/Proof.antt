@@ -1,7 +1,6 @@
 -- `waiting::wanted` meets its contract: by the phase. Assumes nothing.
 use mathlib.Core.Path.{sym, ap, _∙_}
 use Rattle.waiting.specs.Wanted.{wantedIn}
-use borrow.Author.Needs.{needs}
 use Rattle.waiting.proofs.wanted.Statement.{statement}
 use Rattle.waiting.proofs.wanted.Tie as tie
 
@@ -40,32 +39,32 @@ enum-told-3 c = c .match .keys7
 
 returns : tie.Need-returns
 returns c =
-    let a = c .before .before .before .before .before .args in
-    (cc) ∙ sym (ap (wantedIn (a .s .window)) (c .before .before .before .p .given .1))
+    let p = c .before .before .before in
+    c .packet-wants .ensures ∙ sym (ap (wantedIn (p .before .before .args .s .window)) (p .p .given .1))
 
 returns-2 : tie.Need-returns-2
 returns-2 c =
-    let a = c .before .before .before .before .args in
-    (cc) ∙ sym (ap (wantedIn (a .s .window)) (c .before .before .p2 .given .1))
+    let p = c .before .before in
+    c .rest .ensures ∙ sym (ap (wantedIn (p .before .before .args .s .window)) (p .p2 .given .1))
 
 returns-3 : tie.Need-returns-3
-returns-3 c = search needs
+returns-3 c = sym (ap (wantedIn (c .before .before .args .s .window)) (c .enum-told .given .1))
 
 returns-4 : tie.Need-returns-4
 returns-4 c =
-    let a = c .before .before .before .before .args in
-    (cc) ∙ sym (ap (wantedIn (a .s .window)) (c .before .before .p3 .given .1))
+    let p = c .before .before in
+    c .rest2 .ensures ∙ sym (ap (wantedIn (p .before .before .args .s .window)) (p .p3 .given .1))
 
 returns-5 : tie.Need-returns-5
-returns-5 c = search needs
+returns-5 c = sym (ap (wantedIn (c .before .before .args .s .window)) (c .enum-told2 .given .1))
 
 returns-6 : tie.Need-returns-6
 returns-6 c =
-    let a = c .before .before .before .before .args in
-    (cc) ∙ sym (ap (wantedIn (a .s .window)) (c .before .before .p4 .given .1))
+    let p = c .before .before in
+    c .region-wants .ensures ∙ sym (ap (wantedIn (p .before .before .args .s .window)) (p .p4 .given .1))
 
 returns-7 : tie.Need-returns-7
-returns-7 c = search needs
+returns-7 c = sym (ap (wantedIn (c .before .before .args .s .window)) (c .enum-told3 .given .1))
 
 pub wanted-spec : {M : Type 1} → statement M
 wanted-spec =

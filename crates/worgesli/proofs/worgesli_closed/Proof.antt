@@ -5,15 +5,14 @@ use Rattle.raw.specs.Raw.{rawStepped}
 use Rattle.session.specs.declared.Session.{Session}
 use Rattle.session.specs.Step.{closedOf}
 use Rattle.raw_step.proofs.Laws.{closed-no, closed-is}
-use borrow.Author.Needs.{needs}
 use Rattle.worgesli.proofs.worgesli_closed.Statement.{statement}
 use Rattle.worgesli.proofs.worgesli_closed.Tie as tie
 
 is-session-requires : tie.Need-is-session-requires
-is-session-requires c κs = search needs
+is-session-requires c κs = tt
 
 refused-requires : tie.Need-refused-requires
-refused-requires c κs = search needs
+refused-requires c κs = tt
 
 returns : tie.Need-returns
 returns c =
@@ -21,13 +20,13 @@ returns c =
     ∙ closed-no (c .before .before .before .args .s) (sym (c .before .before .is-session .ensures) ∙ not-true _ (c .before .if1 .taken))
 
 session-of-requires : tie.Need-session-of-requires
-session-of-requires c κs = search needs
+session-of-requires c κs = tt
 
 closed-requires : tie.Need-closed-requires
-closed-requires c κs = search needs
+closed-requires c κs = tt
 
 raw-stepped-requires : tie.Need-raw-stepped-requires
-raw-stepped-requires c κs = search needs
+raw-stepped-requires c κs = tt
 
 returns-2 : tie.Need-returns-2
 returns-2 c =

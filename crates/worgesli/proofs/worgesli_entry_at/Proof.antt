@@ -10,7 +10,6 @@ use Rattle.entry.specs.Entry.{missing, entryAt}
 use Rattle.raw.specs.Raw.{widthOf, isWidth}
 use Rattle.raw_records.specs.Records.{rawEntry}
 use Rattle.worgesli.specs.Worgesli.{entryRaw}
-use borrow.Author.Needs.{needs}
 use Rattle.worgesli.proofs.worgesli_entry_at.Statement.{statement}
 use Rattle.worgesli.proofs.worgesli_entry_at.Tie as tie
 
@@ -23,13 +22,13 @@ unfolding entryRaw
 a-width t n i e = rw e refl
 
 is-width-requires : tie.Need-is-width-requires
-is-width-requires c κs = search needs
+is-width-requires c κs = tt
 
 no-entry-requires : tie.Need-no-entry-requires
-no-entry-requires c κs = search needs
+no-entry-requires c κs = tt
 
 raw-entry-requires : tie.Need-raw-entry-requires
-raw-entry-requires c κs = search needs
+raw-entry-requires c κs = tt
 
 returns : tie.Need-returns
 returns c =
@@ -38,13 +37,13 @@ returns c =
     ∙ ap rawEntry (c .before .no-entry .ensures ∙ no-width _ _ _ (sym (w .before .is-width .ensures) ∙ not-true _ (w .if1 .taken)))
 
 width-of-requires : tie.Need-width-of-requires
-width-of-requires c κs = search needs
+width-of-requires c κs = tt
 
 entry-at-requires : tie.Need-entry-at-requires
-entry-at-requires c κs = search needs
+entry-at-requires c κs = tt
 
 raw-entry-requires-2 : tie.Need-raw-entry-requires-2
-raw-entry-requires-2 c κs = search needs
+raw-entry-requires-2 c κs = tt
 
 returns-2 : tie.Need-returns-2
 returns-2 c =

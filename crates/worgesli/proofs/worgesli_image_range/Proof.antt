@@ -1,15 +1,14 @@
 -- `worgesli_image_range` meets its contract: the two calls, one after the other. Assumes nothing.
 use mathlib.Core.Path.{ap, _∙_}
 use Rattle.raw_records.specs.Records.{rawRange}
-use borrow.Author.Needs.{needs}
 use Rattle.worgesli.proofs.worgesli_image_range.Statement.{statement}
 use Rattle.worgesli.proofs.worgesli_image_range.Tie as tie
 
 image-range-requires : tie.Need-image-range-requires
-image-range-requires c κs = search needs
+image-range-requires c κs = tt
 
 raw-range-requires : tie.Need-raw-range-requires
-raw-range-requires c κs = search needs
+raw-range-requires c κs = tt
 
 returns : tie.Need-returns
 returns c = c .raw-range .ensures ∙ ap rawRange (c .before .image-range .ensures .is)

@@ -9,7 +9,6 @@ use Rattle.field.specs.Field.{fieldSize}
 use Rattle.selection.specs.Selection.{nextOf}
 use Rattle.raw.specs.Raw.{widthOf, isWidth}
 use Rattle.worgesli.specs.Worgesli.{nextRaw}
-use borrow.Author.Needs.{needs}
 use Rattle.worgesli.proofs.worgesli_next_selected.Statement.{statement}
 use Rattle.worgesli.proofs.worgesli_next_selected.Tie as tie
 
@@ -23,7 +22,7 @@ module _ (t : List ℕ) (n k : ℕ) (names : List ℕ) (i : ℕ) where
   a-width e = rw e refl
 
 is-width-requires : tie.Need-is-width-requires
-is-width-requires c κs = search needs
+is-width-requires c κs = tt
 
 returns : tie.Need-returns
 returns c =
@@ -40,10 +39,10 @@ returns-2 c =
     e ∙ no-width _ _ _ _ _ (sym (w .before .is-width .ensures) ∙ not-true _ (w .if1 .taken))
 
 width-of-requires : tie.Need-width-of-requires
-width-of-requires c κs = search needs
+width-of-requires c κs = tt
 
 next-selected-requires : tie.Need-next-selected-requires
-next-selected-requires c κs = search needs
+next-selected-requires c κs = tt
 
 returns-3 : tie.Need-returns-3
 returns-3 c =

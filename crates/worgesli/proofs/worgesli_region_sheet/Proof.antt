@@ -22,10 +22,10 @@ unfolding sheetRaw
 a-width t n p e = rw e refl
 
 is-width-requires : tie.Need-is-width-requires
-is-width-requires c κs = search needs
+is-width-requires c κs = tt
 
 raw-sheet-requires : tie.Need-raw-sheet-requires
-raw-sheet-requires c κs = search needs
+raw-sheet-requires c κs = tt
 
 returns : tie.Need-returns
 returns c =
@@ -33,13 +33,13 @@ returns c =
     rw (c .raw-sheet .ensures) (ap crossed (no-width _ _ _ (sym (w .before .is-width .ensures) ∙ not-true _ (w .if1 .taken))))
 
 width-of-requires : tie.Need-width-of-requires
-width-of-requires c κs = search needs
+width-of-requires c κs = tt
 
 region-sheet-requires : tie.Need-region-sheet-requires
-region-sheet-requires c κs = search needs
+region-sheet-requires c κs = tt
 
 raw-sheet-requires-2 : tie.Need-raw-sheet-requires-2
-raw-sheet-requires-2 c κs = search needs
+raw-sheet-requires-2 c κs = tt
 
 same-length : tie.Need-same-length
 same-length c = search needs

@@ -8,10 +8,10 @@ use Rattle.worgesli.proofs.worgesli_reset.Statement.{statement}
 use Rattle.worgesli.proofs.worgesli_reset.Tie as tie
 
 sahara-reset-requires : tie.Need-sahara-reset-requires
-sahara-reset-requires c κs = search needs
+sahara-reset-requires c κs = tt
 
 built-number-requires : tie.Need-built-number-requires
-built-number-requires c κs = search needs
+built-number-requires c κs = tt
 
 same-length : tie.Need-same-length
 same-length c = search needs

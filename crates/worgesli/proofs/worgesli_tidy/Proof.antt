@@ -6,10 +6,10 @@ use Rattle.worgesli.proofs.worgesli_tidy.Statement.{statement}
 use Rattle.worgesli.proofs.worgesli_tidy.Tie as tie
 
 tidy-requires : tie.Need-tidy-requires
-tidy-requires c κs = search needs
+tidy-requires c κs = tt
 
 raw-tidied-requires : tie.Need-raw-tidied-requires
-raw-tidied-requires c κs = search needs
+raw-tidied-requires c κs = tt
 
 same-length : tie.Need-same-length
 same-length c = search needs

@@ -1,15 +1,14 @@
 -- `worgesli_tidy_len` meets its contract: the two calls, one after the other. Assumes nothing.
 use mathlib.Core.Path.{ap, _∙_}
 use Rattle.raw_records.specs.Records.{rawTidied}
-use borrow.Author.Needs.{needs}
 use Rattle.worgesli.proofs.worgesli_tidy_len.Statement.{statement}
 use Rattle.worgesli.proofs.worgesli_tidy_len.Tie as tie
 
 tidy-len-requires : tie.Need-tidy-len-requires
-tidy-len-requires c κs = search needs
+tidy-len-requires c κs = tt
 
 raw-tidied-requires : tie.Need-raw-tidied-requires
-raw-tidied-requires c κs = search needs
+raw-tidied-requires c κs = tt
 
 returns : tie.Need-returns
 returns c = c .raw-tidied .ensures ∙ ap rawTidied (c .before .tidy-len .ensures .is)
