@@ -1,6 +1,6 @@
 -- From the promise of `worgesli_forecast_table` to what a run of C calls comes to. The run's numbers are a session's, so their width is one; they decode to the
--- entries of the first `count` bytes; the promise counts with the session's chunk (`chunk-is`); then `foretold-raw`. That the function ensures just this is read
--- off its own contract (`ensures-it`). Assumes nothing.
+-- entries of the first `count` bytes; the promise counts with the session's chunk (`chunk-is`); then `foretold-raw`. That the function ensures just this is
+-- read off its own contract (`ensures-it`). Assumes nothing.
 use mathlib.Core.Path.{_≡_, refl, sym, ap, _∙_}
 use mathlib.Core.Logic.{⊎-elim}
 use mathlib.Core.Bool.{true, false, not, _||_}
@@ -63,14 +63,14 @@ unfolding sessionOf phaseOf
 decodes r b h = ⊎-elim (λ e. rw e refl) (λ e. rw e refl) h
 
 -- an answer that refuses nothing tells the three numbers, as no refusal is 0
-abbrev Tells : Foreseen → Type 0
-Tells x = rawForecast x .refused ≡ 0 → x ≡ F.Needs (rawForecast x .regions) (rawForecast x .bytes) (rawForecast x .reads)
+abbrev Numbered : Foreseen → Type 0
+Numbered x = rawForecast x .refused ≡ 0 → x ≡ F.Needs (rawForecast x .regions) (rawForecast x .bytes) (rawForecast x .reads)
 
-needs-told : (n : ℕ) (es : List RamdumpTable64) (names : List ℕ) → Tells (forecastOf n es names)
+needs-told : (n : ℕ) (es : List RamdumpTable64) (names : List ℕ) → Numbered (forecastOf n es names)
 unfolding forecastOf
 needs-told n es names =
-    split Tells (not (wellFormed false names)) (λ e h. absurd (omega arith))
-    (λ e. split Tells (passes (bytesNeeded names es) || passes (readsNeeded n names es)) (λ i h. absurd (omega arith)) (λ i h. refl))
+    split Numbered (not (wellFormed false names)) (λ e h. absurd (omega arith))
+    (λ e. split Numbered (passes (bytesNeeded names es) || passes (readsNeeded n names es)) (λ i h. absurd (omega arith)) (λ i h. refl))
 
 -- of a width, the promise is the forecast of the table's entries, with every session's chunk
 pub promised-is : (t : List ℕ) (n : ℕ) (names : List ℕ) (c : Setting) → isWidth n ≡ true

@@ -1,6 +1,6 @@
--- The forecast that C asks for, held against what a run of C calls comes to: from the promise of `worgesli_forecast_table` (worgesli/src), lent the first `count`
--- bytes of the run's table buffer, the `width` of the session's own numbers and the run's names, to the regions, the bytes and the memory reads of the run. The
--- theorem is `foretold-exported` of proofs/Exported; `foretold-ensured` beside it begins at the function's contract itself.
+-- The forecast that C asks for, held against what a run of C calls comes to: from the promise of `worgesli_forecast_table` (worgesli/src), lent the first
+-- `count` bytes of the run's table buffer, the `width` of the session's own numbers and the run's names, to the regions, the bytes and the memory reads of
+-- the run. The theorem is `foretold-exported` of proofs/Exported; `foretold-ensured` beside it begins at the function's contract itself.
 use Prim.Native.Nat.{ℕ}
 use mathlib.Core.Logic.{_⊎_}
 use mathlib.Core.Path.{_≡_}
@@ -37,7 +37,8 @@ TrueOf choice c ls x =
     → reports (calling choice) c (start (calling choice) c) ls ≡ l ++ (finished 3 k ∷ m)
     → Comes (x .regions) (x .bytes) (x .reads) k (reports (calling choice) c (start (calling choice) c) ls)
 
--- of every run of calls, each step lent as `Lends` says, and every place in it where the session has its table: the answer promised there is true of the whole run
+-- of every run of calls, each step lent as `Lends` says, and every place in it where the session has its table: the answer promised there is true of the
+-- whole run
 abbrev pub ForetellsExported : (ℕ → Call) → Type 0
 ForetellsExported choice =
     (c : Setting) (before after : List Lent)

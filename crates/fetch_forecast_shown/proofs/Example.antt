@@ -1,6 +1,6 @@
--- The theorem is about something: a device of either width that is not true, no delivery being of its queue; divided deliveries; steps lent another's image set,
--- reply and out buffer, and steps refused that are lent other names and another table. The forecast, computed; the premises, met, where the table is decoded between
--- regions and in one; what the list reports, computed; and so the claim. Assumes nothing.
+-- The theorem is about something: a device of either width that is not true, no delivery being of its queue; divided deliveries; steps lent another's image
+-- set, reply and out buffer, and steps refused that are lent other names and another table. The forecast, computed; the premises, met, where the table is
+-- decoded between regions and in one; what the list reports, computed; and so the claim. Assumes nothing.
 use mathlib.Core.Path.{_≡_, refl}
 use mathlib.Core.Logic.{inl, inr}
 use mathlib.Core.List.{List, [], _∷_, _++_, map}

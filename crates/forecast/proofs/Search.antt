@@ -1,5 +1,5 @@
--- The sums of a table's entries, the selected ones searched for: what is passed over adds nothing, so the sums so far, with the entries from the next selected one
--- on, are the sums of them all. c is the chunk; the table t has f bytes a number. By induction on the entries left. Assumes nothing.
+-- The sums of a table's entries, the selected ones searched for: what is passed over adds nothing, so the sums so far, with the entries from the next
+-- selected one on, are the sums of them all. c is the chunk; the table t has f bytes a number. By induction on the entries left. Assumes nothing.
 use mathlib.Core.Path.{_≡_, refl, sym, ap, subst, _∙_}
 use mathlib.Core.Bool.{true, false}
 use mathlib.Core.List.{List}

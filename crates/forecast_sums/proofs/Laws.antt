@@ -1,5 +1,5 @@
--- Laws of the forecast: which chunk it counts with, what an answer that is no refusal tells, and that the sums of the functions come to the definition's. Assumes
--- nothing.
+-- Laws of the forecast: which chunk it counts with, what an answer that is no refusal tells, and that the sums of the functions come to the definition's.
+-- Assumes nothing.
 use mathlib.Core.Path.{_≡_, refl, sym, _∙_}
 use mathlib.Core.Bool.{true, false, not, _||_}
 use mathlib.Core.List.{List, [], _∷_}

@@ -1,7 +1,7 @@
--- How large a fetch will be. Document 02, request 5: "From a lent list of decoded entries and the names, give how many regions are selected, their bytes and the
--- memory reads including the table's. .. 26 when the names are malformed, checked first. 27 when the bytes or the memory reads pass 2^64 - 1, second." Entries are
--- decoded, their numbers widened: no width is asked for. c is the most that one memory read asks for. What a session comes to is held against this in
--- fetch_forecast/specs/Claim.
+-- How large a fetch will be. Document 02, request 5: "From a lent list of decoded entries and the names, give how many regions are selected, their bytes and
+-- the memory reads including the table's. .. 26 when the names are malformed, checked first. 27 when the bytes or the memory reads pass 2^64 - 1, second."
+-- Entries are decoded, their numbers widened: no width is asked for. c is the most that one memory read asks for. What a session comes to is held against
+-- this in fetch_forecast/specs/Claim.
 use Prim.Native.Nat.{ℕ, _+_, _-_, _^_}
 use mathlib.Core.Bool.{Bool, false, not, _||_}
 use mathlib.Core.List.{List, [], _∷_}
@@ -51,7 +51,8 @@ forecastOf c es names =
     (pick (passes (bytesNeeded names es) || passes (readsNeeded c names es)) (F.Refused 27)
     (F.Needs (regionsNeeded names es) (bytesNeeded names es) (readsNeeded c names es)))
 
--- what every promise of a forecast takes for c, no session being at hand there: the chunk of each session, whatever it is opened with (`chunk-is` of proofs/Laws)
+-- what every promise of a forecast takes for c, no session being at hand there: the chunk of each session, whatever it is opened with (`chunk-is` of
+-- proofs/Laws)
 unfoldable pub forecastChunk : ℕ
 forecastChunk = 4096
 

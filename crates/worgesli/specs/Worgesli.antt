@@ -1,5 +1,5 @@
--- What crosses to C and is told by no other crate: entries, the next selected one and the region sheet by a width that is a number (document 02, requests 2 and 4),
--- the tidy form of an image set (its request 6), and the reset packet, built alone (document 01, "Building").
+-- What crosses to C and is told by no other crate: entries, the next selected one and the region sheet by a width that is a number (document 02, requests 2
+-- and 4), the tidy form of an image set (its request 6), and the reset packet, built alone (document 01, "Building").
 use Prim.Native.Nat.{ℕ, _+_, _-_}
 use mathlib.Core.List.{List}
 use Rattle.base.specs.Choice.{pick}
