@@ -1,4 +1,6 @@
 // An answer as numbers: its place in the requirement's list, and its values.
+#![tactic(auto)]
+
 ghost use Rattle.std.specs.Prelude.{◌≡◌, get_or};
 ghost use Rattle.session.specs.Answers.{answer_number, answer_values};
 

@@ -1,4 +1,6 @@
 // The phase between the regions of a dump: the next selected entry is opened, or the dump is over.
+#![tactic(auto)]
+
 ghost use Rattle.std.specs.Prelude.{◌≡◌, true, ◌≤◌, length};
 ghost use Rattle.field.specs.Field.{field_size};
 ghost use Rattle.entry.specs.Entry.{entry_of, filename_of, there};

@@ -1,4 +1,6 @@
 // The packets that the host sends, built into a lent out buffer.
+#![tactic(auto)]
+
 ghost use Rattle.std.specs.Prelude.{◌≡◌, [], ◌∷◌, ◌+◌, ◌≤◌, length};
 ghost use Rattle.std.proofs.lemmas.List.Edits.{sets};
 ghost use Rattle.field.specs.Field.{le_bytes, words};
@@ -9,7 +11,7 @@ use command::{SaharaCmd, SaharaCmdModeCmd, SaharaMode, command_number, kind_numb
 use field::{Width, put_u32, put_u64};
 
 // What is to be sent.
-#[derive(Drop)]
+#[derive(Clone, Copy)]
 pub enum Request {
     HelloResp(SaharaMode),
     Done,
@@ -22,7 +24,7 @@ pub enum Request {
 }
 
 // How many bytes of the out buffer are to be sent, or the refusal.
-#[derive(Drop)]
+#[derive(Clone, Copy)]
 pub enum Built {
     Send(usize),
     Refused(u8),

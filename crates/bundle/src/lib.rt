@@ -1,4 +1,6 @@
 // Bundles: the check of an image set and of a name list, and one slot of either.
+#![tactic(auto)]
+
 ghost use Rattle.std.specs.Prelude.{◌≡◌, false, ◌+◌, ◌*◌, ◌<◌, ◌≤◌, eqb, length, drop};
 ghost use Rattle.base.specs.Choice.{pick};
 ghost use Rattle.base.specs.Told.{Tells};
@@ -20,18 +22,18 @@ ghost use Rattle.bundle.specs.Bundle.{
 
 use field::{Field4, u32_at, word};
 
-#[derive(Drop)]
+#[derive(Clone, Copy)]
 pub enum Checked {
     Good,
     Refused(u8),
 }
 
 // A slot's number in a bundle. It is no image ID: only the one-image rule (crate image) makes one of the other.
-#[derive(Drop)]
+#[derive(Clone, Copy)]
 pub struct SlotNumber(pub usize);
 
 // A slot: its first byte's place among the bundle's bytes and its length.
-#[derive(Drop)]
+#[derive(Clone, Copy)]
 pub enum Slot {
     At(usize, usize),
     Absent,

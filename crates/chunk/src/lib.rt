@@ -1,4 +1,6 @@
 // A chunk of a region: the most that one memory read asks for, and whether an empty read is due behind it.
+#![tactic(auto)]
+
 ghost use Rattle.std.specs.Prelude.{◌≡◌};
 ghost use Rattle.verdict.specs.Opening.{chunk_of};
 ghost use Rattle.session.specs.RegionPhase.{due_after};

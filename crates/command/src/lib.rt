@@ -1,8 +1,10 @@
 // Modes, commands and packet kinds with their numbers, and the class of a command number.
+#![tactic(auto)]
+
 ghost use Rattle.std.specs.Prelude.{◌≡◌};
 ghost use Rattle.command.specs.Command.{mode_number, command_number, kind_number, least_body, mode_of, command_of, class_of};
 
-#[derive(Drop)]
+#[derive(Clone, Copy)]
 pub enum SaharaMode {
     WaitingForImage,
     ImageTransferComplete,
@@ -10,7 +12,7 @@ pub enum SaharaMode {
     Command,
 }
 
-#[derive(Drop)]
+#[derive(Clone, Copy)]
 pub enum SaharaCmdModeCmd {
     Nop,
     ReadSerialNum,
@@ -19,7 +21,7 @@ pub enum SaharaCmdModeCmd {
 }
 
 // The kinds of packet that are decoded.
-#[derive(Drop)]
+#[derive(Clone, Copy)]
 pub enum SaharaCmd {
     Hello,
     HelloResp,
@@ -38,7 +40,7 @@ pub enum SaharaCmd {
     ReadData64,
 }
 
-#[derive(Drop)]
+#[derive(Clone, Copy)]
 pub enum Class {
     Kind(SaharaCmd),
     Xml,
@@ -46,13 +48,13 @@ pub enum Class {
     Unknown,
 }
 
-#[derive(Drop)]
+#[derive(Clone, Copy)]
 pub enum ModeOf {
     Is(SaharaMode),
     Bad,
 }
 
-#[derive(Drop)]
+#[derive(Clone, Copy)]
 pub enum CommandOf {
     Is(SaharaCmdModeCmd),
     Bad,

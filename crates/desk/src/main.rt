@@ -1,4 +1,6 @@
 // Reads standard input as deliveries of 4,096 bytes, each used up before the next is read, and prints a line a step: bytes taken, answer, number.
+#![tactic(auto)]
+
 ghost use Rattle.std.specs.Prelude.{◌≡◌, ◌≤◌, length};
 
 use command::SaharaMode;

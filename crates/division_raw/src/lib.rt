@@ -1,1 +1,2 @@
 // The theorem through the C interface: no code.
+#![tactic(auto)]

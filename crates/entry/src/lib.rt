@@ -1,4 +1,6 @@
 // Entries of the memory table of either width, decoded from its bytes.
+#![tactic(auto)]
+
 ghost use Rattle.std.specs.Prelude.{◌≡◌, ◌+◌, ◌≤◌, length, take, drop};
 ghost use Rattle.field.specs.Field.{le, field_size};
 ghost use Rattle.entry.specs.Entry.{entry_size, entries_in, decoded, missing, entry_at};
@@ -6,7 +8,7 @@ ghost use Rattle.entry.specs.Entry.{entry_size, entries_in, decoded, missing, en
 use field::{Width, field_size, u32_padded, u64_padded};
 
 // An entry; the numbers of 32 bits are widened.
-#[derive(Drop)]
+#[derive(Clone, Copy)]
 pub struct RamdumpTable64 {
     pub save_pref: u64,
     pub base: u64,
@@ -16,7 +18,7 @@ pub struct RamdumpTable64 {
 }
 
 // Whether the table has the entry, and the entry.
-#[derive(Drop)]
+#[derive(Clone, Copy)]
 pub struct EntryAt {
     pub there: bool,
     pub entry: RamdumpTable64,

@@ -1,1 +1,2 @@
 // The worked examples of the requirement, computed over the definitions: no code.
+#![tactic(auto)]

@@ -1,5 +1,7 @@
 // Deliveries for a session, one after another: what is left of one after a step, when the next is due, and when the channel is closed. For programs
 // that read a device's bytes from elsewhere.
+#![tactic(auto)]
+
 ghost use Rattle.std.specs.Prelude.{◌≡◌, false, ◌+◌, min};
 ghost use Rattle.feed.specs.Feed.{due_at, closes_at};
 
@@ -7,7 +9,7 @@ use session::Session;
 use turn::least;
 
 // A delivery, from..to of a buffer, and whether the bytes are over.
-#[derive(Drop)]
+#[derive(Clone, Copy)]
 pub struct Feed {
     pub from: usize,
     pub to: usize,
@@ -15,7 +17,7 @@ pub struct Feed {
 }
 
 // A step: the next session, what is left of the delivery, and whether the session goes on.
-#[derive(Drop)]
+#[derive(Clone, Copy)]
 pub struct Turned {
     pub session: Session,
     pub feed: Feed,

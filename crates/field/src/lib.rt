@@ -1,29 +1,31 @@
 // Little-endian fields of 4 and 8 bytes, read and written anywhere in a slice. A field that does not fit is an answer, or is read with zeros. The width of a
 // memory debug's numbers.
+#![tactic(auto)]
+
 ghost use Rattle.std.specs.Prelude.{◌≡◌, ◌+◌, ◌*◌, ◌≤◌, length, drop, get_or};
 ghost use Rattle.std.proofs.lemmas.List.Edits.{sets};
 ghost use Rattle.field.specs.Field.{le, le_bytes, field4, field8, written, put_at, field_size};
 
-#[derive(Drop)]
+#[derive(Clone, Copy)]
 pub enum Field4 {
     Is(u32),
     Short,
 }
 
-#[derive(Drop)]
+#[derive(Clone, Copy)]
 pub enum Field8 {
     Is(u64),
     Short,
 }
 
-#[derive(Drop)]
+#[derive(Clone, Copy)]
 pub enum Put {
     Done,
     Short,
 }
 
 // The width of a memory debug's numbers.
-#[derive(Drop)]
+#[derive(Clone, Copy)]
 pub enum Width {
     Bits32,
     Bits64,

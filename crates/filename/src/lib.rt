@@ -1,9 +1,11 @@
 // Filenames of table entries: the stem, and the tests of a region's name.
+#![tactic(auto)]
+
 ghost use Rattle.std.specs.Prelude.{◌≡◌, length};
 ghost use Rattle.base.specs.Told.{Tells};
 ghost use Rattle.filename.specs.Filename.{before, stem_of, open_check, after_open_check, name_told};
 
-#[derive(Drop)]
+#[derive(Clone, Copy)]
 pub enum NameCheck {
     Good,
     Refused(u8),

@@ -1,4 +1,6 @@
 // How large a fetch will be: its regions, their bytes and the memory reads, from decoded entries and the names.
+#![tactic(auto)]
+
 ghost use Rattle.std.specs.Prelude.{◌≡◌, ◌≤◌, take};
 ghost use Rattle.base.specs.Told.{Tells};
 ghost use Rattle.field.specs.Field.{field_size};

@@ -1,4 +1,6 @@
 // What a forecast counts, one entry at a time: the regions, their bytes and the memory reads.
+#![tactic(auto)]
+
 ghost use Rattle.std.specs.Prelude.{◌≡◌};
 ghost use Rattle.verdict.specs.Opening.{chunks_in};
 ghost use Rattle.forecast_sums.specs.Forecast.{forecast_chunk};
@@ -9,14 +11,14 @@ use entry::RamdumpTable64;
 use selection::selects;
 
 // The regions, their bytes, and the memory reads, the table's among them; or the refusal.
-#[derive(Drop)]
+#[derive(Clone, Copy)]
 pub enum Foreseen {
     Needs(u64, u64, u64),
     Refused(u8),
 }
 
 // The same while a list is gone through; refused is 0 while nothing is.
-#[derive(Drop)]
+#[derive(Clone, Copy)]
 pub struct Sums {
     pub regions: u64,
     pub bytes: u64,

@@ -1,4 +1,6 @@
 // The host: a session opened, one step of it, and the channel's end.
+#![tactic(auto)]
+
 ghost use Rattle.std.specs.Prelude.{◌≡◌};
 ghost use Rattle.base.specs.Told.{Tells};
 ghost use Rattle.session.specs.Answers.{stepped_told, outcome_told};

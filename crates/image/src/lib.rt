@@ -1,4 +1,6 @@
 // The image range that a device's read asks for. An image ID and a slot number are different quantities.
+#![tactic(auto)]
+
 ghost use Rattle.std.specs.Prelude.{◌≡◌, ◌+◌, ◌<◌};
 ghost use Rattle.base.specs.Told.{Tells};
 ghost use Rattle.image.specs.Image.{slot_for, range_in, range_unjudged, range_of, range_told};
@@ -7,10 +9,10 @@ use bundle::{Checked, Slot, SlotNumber, check_images, slot_at};
 use field::u32_padded;
 
 // The device's name for an image.
-#[derive(Drop)]
+#[derive(Clone, Copy)]
 pub struct ImageId(pub u64);
 
-#[derive(Drop)]
+#[derive(Clone, Copy)]
 pub enum ImageRange {
     At(usize, usize),
     Refused(u8),

@@ -1,4 +1,6 @@
 // A session in place, as numbers behind references: read, put back, and in a region its counts.
+#![tactic(auto)]
+
 ghost use Rattle.std.specs.Prelude.{◌≡◌};
 ghost use Rattle.raw.specs.Raw.{told_of, stepped_at, told_in};
 ghost use Rattle.in_place.specs.Place.{raw_at, waits_at, in_region, region_at, counted_at};

@@ -1,4 +1,6 @@
 // The limits of a session's counts: refusal 18. Sums are of mathematical integers: none is formed that could wrap.
+#![tactic(auto)]
+
 ghost use Rattle.std.specs.Prelude.{◌≡◌, ◌||◌, ◌+◌, ◌^◌, ltb, length};
 ghost use Rattle.field.specs.Field.{field_size};
 ghost use Rattle.packet.specs.Packet.{length_field};

@@ -1,4 +1,6 @@
 // Packets: an enum whose cases hold body structs, which hold the mode or the command; decoding; the length rule.
+#![tactic(auto)]
+
 ghost use Rattle.std.specs.Prelude.{◌≡◌, ◌+◌, ◌≤◌, length, drop};
 ghost use Rattle.command.specs.Command.{least_body};
 ghost use Rattle.command.specs.declared.SaharaCmd.TheVariants as K;
@@ -17,7 +19,7 @@ use field::{Field4, Field8};
 use reader::{long_at, word_at};
 
 // The six words of a hello that nobody uses.
-#[derive(Drop)]
+#[derive(Clone, Copy)]
 pub struct Unk {
     pub unk0: u32,
     pub unk1: u32,
@@ -27,7 +29,7 @@ pub struct Unk {
     pub unk5: u32,
 }
 
-#[derive(Drop)]
+#[derive(Clone, Copy)]
 pub struct HelloReq {
     pub ver: u32,
     pub compatible: u32,
@@ -36,7 +38,7 @@ pub struct HelloReq {
     pub unk: Unk,
 }
 
-#[derive(Drop)]
+#[derive(Clone, Copy)]
 pub struct HelloResp {
     pub ver: u32,
     pub compatible: u32,
@@ -45,67 +47,67 @@ pub struct HelloResp {
     pub unk: Unk,
 }
 
-#[derive(Drop)]
+#[derive(Clone, Copy)]
 pub struct ReadReq {
     pub image: u32,
     pub offset: u32,
     pub len: u32,
 }
 
-#[derive(Drop)]
+#[derive(Clone, Copy)]
 pub struct Eoi {
     pub image: u32,
     pub status: u32,
 }
 
-#[derive(Drop)]
+#[derive(Clone, Copy)]
 pub struct DoneResp {
     pub status: u32,
 }
 
-#[derive(Drop)]
+#[derive(Clone, Copy)]
 pub struct ExecResp {
     pub command: SaharaCmdModeCmd,
     pub len: u32,
 }
 
-#[derive(Drop)]
+#[derive(Clone, Copy)]
 pub struct ExecData {
     pub command: SaharaCmdModeCmd,
 }
 
-#[derive(Drop)]
+#[derive(Clone, Copy)]
 pub struct DebugReq {
     pub addr: u32,
     pub len: u32,
 }
 
-#[derive(Drop)]
+#[derive(Clone, Copy)]
 pub struct ReadMemReq {
     pub addr: u32,
     pub len: u32,
 }
 
-#[derive(Drop)]
+#[derive(Clone, Copy)]
 pub struct Debug64Req {
     pub addr: u64,
     pub len: u64,
 }
 
-#[derive(Drop)]
+#[derive(Clone, Copy)]
 pub struct ReadMem64Req {
     pub addr: u64,
     pub len: u64,
 }
 
-#[derive(Drop)]
+#[derive(Clone, Copy)]
 pub struct ReadData64Req {
     pub image: u64,
     pub offset: u64,
     pub len: u64,
 }
 
-#[derive(Drop)]
+#[derive(Clone, Copy)]
 pub enum SaharaPacketBody {
     HelloReq(HelloReq),
     HelloResp(HelloResp),
@@ -125,26 +127,26 @@ pub enum SaharaPacketBody {
 }
 
 // A decoded packet: its length field, which nothing here judges, and its body.
-#[derive(Drop)]
+#[derive(Clone, Copy)]
 pub struct SaharaPacket {
     pub len: u32,
     pub body: SaharaPacketBody,
 }
 
-#[derive(Drop)]
+#[derive(Clone, Copy)]
 pub enum Decoded {
     Is(SaharaPacket),
     Refused(u8),
 }
 
-#[derive(Drop)]
+#[derive(Clone, Copy)]
 pub enum LengthCheck {
     Good,
     Refused(u8),
 }
 
 // A body, or what is no body of its kind.
-#[derive(Drop)]
+#[derive(Clone, Copy)]
 pub enum Body {
     Is(SaharaPacketBody),
     Malformed,

@@ -1,4 +1,6 @@
 // The packet phase of a step: bytes are held up to the packet's end, then the packet is judged and acted on.
+#![tactic(auto)]
+
 ghost use Rattle.std.specs.Prelude.{◌≡◌, List, ℕ, ◌-◌, ◌≤◌, length};
 ghost use Rattle.build.specs.Build.{size_of, front};
 ghost use Rattle.base.specs.Told.{Tells};

@@ -1,4 +1,6 @@
 // The verdict on a packet's bytes: decoded, then what its kind asks for.
+#![tactic(auto)]
+
 ghost use Rattle.std.specs.Prelude.{◌≡◌};
 ghost use Rattle.base.specs.Told.{Tells};
 ghost use Rattle.verdict.specs.Verdict.{on_body, verdict_of, verdict_told};

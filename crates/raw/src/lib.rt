@@ -1,4 +1,6 @@
 // A session, and what a step gives, as plain numbers: what crosses to C and Rust.
+#![tactic(auto)]
+
 ghost use Rattle.std.specs.Prelude.{◌≡◌};
 ghost use Rattle.base.specs.Choice.{pick};
 ghost use Rattle.raw.specs.Raw.{
@@ -40,7 +42,7 @@ use verdict::{ExecCommand, Opening, QdlBackend};
 
 // Numbers that the phase does not use are 0. The width is 32 or 64.
 #[repr(C)]
-#[derive(Drop)]
+#[derive(Clone, Copy)]
 pub struct RawSession {
     pub mode: u32,
     pub command: u32,
@@ -59,7 +61,7 @@ pub struct RawSession {
 }
 
 #[repr(C)]
-#[derive(Drop)]
+#[derive(Clone, Copy)]
 pub struct RawStepped {
     pub session: RawSession,
     pub taken: usize,
@@ -70,7 +72,7 @@ pub struct RawStepped {
 
 // What is told of a step beside the session. In this order no two numbers that the structs above and below hold side by side are side by side here: they
 // would be copied as one, which stalls the processor just after they were stored as two.
-#[derive(Drop)]
+#[derive(Clone, Copy)]
 pub struct RawTold {
     pub first: u64,
     pub answer: u32,
@@ -80,7 +82,7 @@ pub struct RawTold {
 
 // What a step in place gives: what is told, and in a region the bytes that the next step waits for.
 #[repr(C)]
-#[derive(Drop)]
+#[derive(Clone, Copy)]
 pub struct RawPlaced {
     pub taken: usize,
     pub first: u64,
@@ -90,7 +92,7 @@ pub struct RawPlaced {
 }
 
 // The numbers of a phase.
-#[derive(Drop)]
+#[derive(Clone, Copy)]
 pub struct Counts {
     pub phase: u32,
     pub count: usize,

@@ -1,4 +1,6 @@
 // How large the fetch of a table will be, by a width that is a number, as numbers: what crosses to C and Rust.
+#![tactic(auto)]
+
 ghost use Rattle.std.specs.Prelude.{◌≡◌};
 ghost use Rattle.raw_records.specs.Records.{raw_forecast};
 ghost use Rattle.raw_forecast.specs.RawForecast.{forecast_raw};

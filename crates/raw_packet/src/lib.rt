@@ -1,4 +1,6 @@
 // A decoded packet as plain numbers: what crosses to C and Rust.
+#![tactic(auto)]
+
 ghost use Rattle.std.specs.Prelude.{◌≡◌};
 ghost use Rattle.command.specs.Command.{mode_number, command_number};
 ghost use Rattle.raw_packet.specs.RawPacket.{refused_packet, plain_packet, hello_packet, body_packet, raw_packet};
@@ -7,7 +9,7 @@ use command::{SaharaCmdModeCmd, SaharaMode, command_number, mode_number};
 use packet::{Decoded, SaharaPacketBody, Unk};
 
 #[repr(C)]
-#[derive(Drop)]
+#[derive(Clone, Copy)]
 pub struct RawPacket {
     pub refused: u32,
     pub command: u32,

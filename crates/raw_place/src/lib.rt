@@ -1,5 +1,7 @@
 // A step of a session where it stands. Those that a region repeats, the empty read, bytes handed out and each memory read behind the first, are made on its
 // numbers, by the same function as a session's; all others are left to the step that reads the session and puts it back.
+#![tactic(auto)]
+
 ghost use Rattle.std.specs.Prelude.{◌≡◌, true, false};
 ghost use Rattle.base.specs.Choice.{pick};
 ghost use Rattle.bundle.specs.Bundle.{well_formed};

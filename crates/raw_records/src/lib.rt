@@ -1,5 +1,7 @@
 // A table entry, an image range, a check, a built packet, the answers of a region sheet and of a tidying and a forecast as plain numbers: what crosses to C and
 // Rust.
+#![tactic(auto)]
+
 ghost use Rattle.std.specs.Prelude.{◌≡◌};
 ghost use Rattle.base.specs.Choice.{pick};
 ghost use Rattle.raw_records.specs.Records.{raw_entry, raw_range, raw_sheet, raw_forecast, raw_tidied, checked_number, built_number};
@@ -13,7 +15,7 @@ use sheet::Sheet;
 use tidied::Tidied;
 
 #[repr(C)]
-#[derive(Drop)]
+#[derive(Clone, Copy)]
 pub struct RawEntry {
     pub save_pref: u64,
     pub base: u64,
@@ -24,7 +26,7 @@ pub struct RawEntry {
 }
 
 #[repr(C)]
-#[derive(Drop)]
+#[derive(Clone, Copy)]
 pub struct RawRange {
     pub start: usize,
     pub len: usize,
@@ -32,14 +34,14 @@ pub struct RawRange {
 }
 
 #[repr(C)]
-#[derive(Drop)]
+#[derive(Clone, Copy)]
 pub struct RawSheet {
     pub written: usize,
     pub refused: u32,
 }
 
 #[repr(C)]
-#[derive(Drop)]
+#[derive(Clone, Copy)]
 pub struct RawForecast {
     pub regions: u64,
     pub bytes: u64,
@@ -48,7 +50,7 @@ pub struct RawForecast {
 }
 
 #[repr(C)]
-#[derive(Drop)]
+#[derive(Clone, Copy)]
 pub struct RawTidied {
     pub len: usize,
     pub refused: u32,

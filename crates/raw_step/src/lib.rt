@@ -1,4 +1,6 @@
 // A step of a session as numbers: read, stepped and put back, with the session in place.
+#![tactic(auto)]
+
 ghost use Rattle.std.specs.Prelude.{◌≡◌, ltb, length};
 ghost use Rattle.base.specs.Choice.{pick};
 ghost use Rattle.raw.specs.Raw.{stepped_at};

@@ -1,4 +1,6 @@
 // A region's counts: how much the next memory read asks for, what is handed out of the bytes that came, and the number that its end is refused with.
+#![tactic(auto)]
+
 ghost use Rattle.std.specs.Prelude.{◌≡◌, min};
 ghost use Rattle.session.specs.RegionPhase.{recounted, asks_for, past_end};
 ghost use Rattle.region_counts.specs.Counts.{handed_by};
@@ -9,7 +11,7 @@ use session::Region;
 use verdict::Opening;
 
 // Bytes handed out: how many, and how many are outstanding then.
-#[derive(Drop)]
+#[derive(Clone, Copy)]
 pub struct Handed {
     pub taken: usize,
     pub left: u64,

@@ -1,4 +1,6 @@
 // The phase in a region of a dump: chunk by chunk it is asked for and handed out, then closed.
+#![tactic(auto)]
+
 ghost use Rattle.std.specs.Prelude.{◌≡◌, true, false, List, ℕ, ◌+◌, ◌^◌, ◌<◌, ◌≤◌, length};
 ghost use Rattle.field.specs.Field.{field_size};
 ghost use Rattle.entry.specs.Entry.{there};
@@ -23,7 +25,7 @@ use verdict::Opening;
 
 // What a region's step comes to, by its counts: refused; bytes are outstanding and none came; other counts; the region is to be begun, its name judged;
 // it is to be closed.
-#[derive(Drop)]
+#[derive(Clone, Copy)]
 pub enum Advance {
     Refused(u8),
     Waits,

@@ -3,6 +3,8 @@
 // table and reply buffers begin with, of the image set, the names and the device's bytes) and these five. A session of no bytes is one as opened. Else
 // the buffers hold zeros behind what they begin with, and a last line tells the session; of fewer than 80 bytes it is as opened too, of others made up: ten numbers
 // of 8 bytes (phase, width, memory reads; count, at, base, len, done, outstanding, due, as they cross to C) and the window.
+#![tactic(auto)]
+
 ghost use Rattle.std.specs.Prelude.{◌≡◌, ◌+◌, ◌≤◌, ◌<◌, length};
 ghost use Rattle.runs.specs.Case.{Placed};
 

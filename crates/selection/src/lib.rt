@@ -1,4 +1,6 @@
 // Selection of table entries by preference or by name.
+#![tactic(auto)]
+
 ghost use Rattle.std.specs.Prelude.{◌≡◌, map, ◌-◌};
 ghost use Rattle.field.specs.Field.{field_size};
 ghost use Rattle.selection.specs.Selection.{low, names_from, member, selected_by, selected_at, next_of};

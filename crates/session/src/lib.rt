@@ -1,11 +1,13 @@
 // The session: what a host keeps from step to step, and what a step answers.
+#![tactic(auto)]
+
 ghost use Rattle.std.specs.Prelude.{◌≡◌};
 
 use field::Width;
 use verdict::Opening;
 
 // A buffer that is being filled: its declared length, and how much is there.
-#[derive(Drop)]
+#[derive(Clone, Copy)]
 pub struct Filling {
     pub declared: usize,
     pub filled: usize,
@@ -13,7 +15,7 @@ pub struct Filling {
 
 // A region that is being dumped: its place in the table, base and length, bytes handed out, bytes requested and not yet handed out,
 // and whether an empty read is due.
-#[derive(Drop)]
+#[derive(Clone, Copy)]
 pub struct Region {
     pub entry: usize,
     pub base: u64,
@@ -24,7 +26,7 @@ pub struct Region {
 }
 
 // Each phase holds its own counts.
-#[derive(Drop)]
+#[derive(Clone, Copy)]
 pub enum Phase {
     // the bytes of a packet that are held
     Packet(usize),
@@ -40,7 +42,7 @@ pub enum Phase {
     Ended(usize),
 }
 
-#[derive(Drop)]
+#[derive(Clone, Copy)]
 pub struct Session {
     pub opening: Opening,
     pub reads: u64,
@@ -51,7 +53,7 @@ pub struct Session {
     pub phase: Phase,
 }
 
-#[derive(Drop)]
+#[derive(Clone, Copy)]
 pub enum Answer {
     Go,
     Send(usize),
@@ -64,7 +66,7 @@ pub enum Answer {
     Refused(u8),
 }
 
-#[derive(Drop)]
+#[derive(Clone, Copy)]
 pub struct Stepped {
     pub session: Session,
     pub taken: usize,
@@ -72,7 +74,7 @@ pub struct Stepped {
 }
 
 // What a step of a region counts: the region and the memory reads afterwards, the bytes taken, and the answer.
-#[derive(Drop)]
+#[derive(Clone, Copy)]
 pub struct Counted {
     pub region: Region,
     pub reads: u64,

@@ -1,4 +1,6 @@
 // The region sheet: a line of text for each entry of a memory table, written to a lent page.
+#![tactic(auto)]
+
 ghost use Rattle.std.specs.Prelude.{◌≡◌, ◌+◌, ◌*◌, ◌<◌, ◌≤◌, length, get_or};
 ghost use Rattle.std.proofs.lemmas.List.Edits.{sets};
 ghost use Rattle.base.specs.Told.{Tells};
@@ -23,7 +25,7 @@ use field::Width;
 use filename::find;
 
 // How many bytes of the page are the sheet, or the refusal.
-#[derive(Drop)]
+#[derive(Clone, Copy)]
 pub enum Sheet {
     Made(usize),
     Refused(u8),

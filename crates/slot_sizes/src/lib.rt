@@ -1,4 +1,6 @@
 // What the slots of an image set hold: their sizes, one by one and together, and their starts when the data of one stands behind that of another.
+#![tactic(auto)]
+
 ghost use Rattle.std.specs.Prelude.{◌≡◌, ◌+◌, min, length};
 ghost use Rattle.bundle.specs.Bundle.{count_of};
 ghost use Rattle.bundle.specs.Content.{size_in, content_of};

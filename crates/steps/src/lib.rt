@@ -1,1 +1,2 @@
 // The theorem over the definitions: no code.
+#![tactic(auto)]

@@ -1,4 +1,6 @@
 // What a step gives, for every phase alike: its guard, a refusal that touches nothing, and the session in another phase.
+#![tactic(auto)]
+
 ghost use Rattle.std.specs.Prelude.{◌≡◌, min};
 ghost use Rattle.session.specs.Outcome.{gives, in_phase};
 ghost use Rattle.turn.specs.Turn.{refusal_of};

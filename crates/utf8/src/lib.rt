@@ -1,4 +1,6 @@
 // UTF-8 after Unicode's table 3-7.
+#![tactic(auto)]
+
 ghost use Rattle.std.specs.Prelude.{◌≡◌};
 ghost use Rattle.utf8.specs.Utf8.{utf8};
 ghost use Rattle.utf8.specs.Classes.{Rule};

@@ -1,10 +1,12 @@
 // A sequence of UTF-8: the bytes that follow its lead byte.
+#![tactic(auto)]
+
 ghost use Rattle.std.specs.Prelude.{◌≡◌, drop};
 ghost use Rattle.utf8_sequence.specs.Sequence.{follows, end_of};
 
 // What a row of Unicode's table 3-7 has behind the lead byte: how many bytes follow, and the least and the greatest second byte. Those behind the second
 // are 0x80..=0xBF.
-#[derive(Drop)]
+#[derive(Clone, Copy)]
 pub struct Follow(pub u8, pub u8, pub u8);
 
 // Whether a byte stands at i, and is one of low..=high.

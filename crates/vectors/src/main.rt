@@ -1,5 +1,7 @@
 // Runs the leaf operations on cases from standard input, a line each, and writes what each gives. A case is a letter and words:
 // bytes in hexadecimal (`-` for none) and numbers in hexadecimal. A line that starts with `#` is written again.
+#![tactic(auto)]
+
 mod bundles;
 mod forecasts;
 mod packets;

@@ -1,4 +1,6 @@
 // What a whole packet asks of the host, by its kind; what a session is opened with.
+#![tactic(auto)]
+
 ghost use Rattle.std.specs.Prelude.{◌≡◌};
 ghost use Rattle.image.specs.Image.{range_unjudged};
 ghost use Rattle.verdict.specs.Verdict.{
@@ -16,28 +18,28 @@ use command::{SaharaCmdModeCmd, SaharaMode};
 use field::{Width, u32_padded};
 use image::{ImageId, ImageRange, image_range_unjudged};
 
-#[derive(Drop)]
+#[derive(Clone, Copy)]
 pub enum QdlBackend {
     Serial,
     Usb,
 }
 
 // The command that a session is opened with, or none.
-#[derive(Drop)]
+#[derive(Clone, Copy)]
 pub enum ExecCommand {
     Is(SaharaCmdModeCmd),
     None,
 }
 
 // What a session is opened with.
-#[derive(Drop)]
+#[derive(Clone, Copy)]
 pub struct Opening {
     pub mode: SaharaMode,
     pub command: ExecCommand,
     pub backend: QdlBackend,
 }
 
-#[derive(Drop)]
+#[derive(Clone, Copy)]
 pub enum Verdict {
     // a packet to send
     Reply(Request),

@@ -1,4 +1,6 @@
 // Whether a step waits for bytes, and for how many. What a step judges is the whole packet: theorems over the definitions (proofs/Window).
+#![tactic(auto)]
+
 ghost use Rattle.std.specs.Prelude.{◌≡◌, ◌-◌};
 ghost use Rattle.waiting.specs.Wanted.{region_waits, needs_bytes, packet_wants, region_wants, wanted_of};
 

@@ -1,4 +1,6 @@
 // The host for C and Rust. A slice crosses as a pointer and a length, a struct by value, an array behind a reference as a pointer.
+#![tactic(auto)]
+
 ghost use Rattle.std.specs.Prelude.{◌≡◌};
 ghost use Rattle.utf8.specs.Utf8.{utf8};
 ghost use Rattle.bundle.specs.Bundle.{images_checked, names_checked};
