@@ -1,0 +1,27 @@
+-- `build::hello_body` meets its contract: the seven stores, one behind the other, compute to the one; a long of 0 is two words of 0.
+-- Assumes nothing.
+use mathlib.Core.Path.{refl}
+use Rattle.field.specs.Field.{le_bytes, fields}
+use borrow.Author.Rules.{rules}
+use Rattle.build.proofs.hello_body.Goals as goal
+
+pub returns : goal.returns
+unfolding fields le_bytes
+returns c =
+    let l3 = c in
+    let l2 = l3.before.before.before.before in
+    let l1 = l2.before.before.before.before in
+    let w4 = l1.before.before.before.before in
+    let w3 = w4.before.before.before.before in
+    let w2 = w3.before.before.before.before in
+    let w1 = w2.before.before.before.before in
+    rw (
+      l3.long-3.ensures,
+      l2.long-2.ensures,
+      l1.long.ensures,
+      w4.word-4.ensures,
+      w3.word-3.ensures,
+      w2.word-2.ensures,
+      w1.word.ensures,
+    )
+    refl

@@ -1,0 +1,13 @@
+-- `build::long` meets its contract: the field lies within the buffer, so it was put. Assumes nothing.
+use mathlib.Core.Path.{ap, ◌∙◌}
+use native.Mathlib.Omega.{arith}
+use Rattle.field.specs.Field.{Written}
+use Rattle.field.proofs.Laws.{put_done}
+use borrow.Author.Rules.{rules}
+use Rattle.build.proofs.long.Goals as goal
+
+pub shape_of-out : goal.shape_of-out
+shape_of-out c = c.out-1.given
+
+pub returns : goal.returns
+returns c = ap (λ (x : Written). x.bytes) (c.put_u64.ensures ∙ put_done _ _ _ _ (omega arith))

@@ -1,0 +1,12 @@
+-- `build::sahara_send_generic` meets its contract: the two stores, one behind the other, compute to the one. Assumes nothing.
+use mathlib.Core.Path.{refl}
+use Rattle.field.specs.Field.{le_bytes, fields}
+use borrow.Author.Rules.{rules}
+use Rattle.build.proofs.sahara_send_generic.Goals as goal
+
+pub returns : goal.returns
+unfolding fields le_bytes
+returns c =
+    let w2 = c in
+    let w1 = w2.before.before.before.before in
+    rw (w2.word-2.ensures, w1.word.ensures) refl

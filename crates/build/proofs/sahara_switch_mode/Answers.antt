@@ -1,0 +1,20 @@
+-- `build::sahara_switch_mode` meets its contract: refused where the test says so, else the packet's three words. Assumes nothing.
+use native.Mathlib.Omega.{arith}
+use Rattle.field.specs.Field.{le_bytes, fields}
+use Rattle.build.specs.Build.{bytes_of}
+use Rattle.build.specs.declared.Request.TheVariants as Q
+use Rattle.build.proofs.Laws.{refuses, builds}
+use borrow.Author.Rules.{rules}
+use Rattle.build.proofs.sahara_switch_mode.Goals as goal
+
+pub returns-then-out-lt-LEAST : goal.returns-then-out-lt-LEAST
+returns-then-out-lt-LEAST c = refuses _ _ (omega arith)
+
+pub shape_of-out : goal.shape_of-out
+shape_of-out c = c.out-1.given
+
+pub returns : goal.returns
+unfolding bytes_of fields le_bytes
+returns c =
+    let w = c in
+    builds Q.SwitchMode _ _ (omega arith) (rw w.mode_number.ensures at w.one_word.ensures)

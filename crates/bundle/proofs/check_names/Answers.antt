@@ -1,0 +1,16 @@
+-- `bundle::check_names` meets its contract: good where `well_formed` says so, else refused. Assumes nothing.
+use mathlib.Core.Path.{◌≡◌, sym, ◌∙◌}
+use mathlib.Core.Bool.{true, false}
+use Rattle.base.proofs.Telling.{tells}
+use Rattle.bundle.specs.Bundle.{well_formed, checked_told}
+use Rattle.bundle.proofs.check_names.Goals as goal
+
+pub returns-then-well_formed : goal.returns-then-well_formed
+returns-then-well_formed c =
+    let w : well_formed false c.args.names.now ≡ true = sym c.well-formed-2.ensures ∙ c.if-well_formed.true in
+    tells checked_told (simp w)
+
+pub returns : goal.returns
+returns c =
+    let w : well_formed false c.args.names.now ≡ false = sym c.well-formed-2.ensures ∙ c.if-well_formed.false in
+    tells checked_told (simp w)

@@ -1,0 +1,18 @@
+-- `bundle::length_of` meets its contract: the number read is at the slot's place, since n is the count. Assumes nothing.
+use mathlib.Core.Path.{ap, ◌∙◌}
+use Prim.Native.Nat.{ℕ, ◌+◌, ◌*◌}
+use native.Mathlib.Omega.{arith}
+use lib.ListN.{drop}
+use Rattle.field.specs.Field.{le}
+use borrow.Author.Rules.{rules}
+use Rattle.bundle.proofs.length_of.Goals as goal
+
+pub slot_number-requires : goal.slot_number-requires
+slot_number-requires c κs = omega (arith, c.requires.1, c.requires.2)
+
+pub returns : goal.returns
+returns c =
+    let s = c in (
+      c.slot_number.ensures.0 ∙ ap (λ (n : ℕ). le 4 (drop (8 + 4 * n + 4 * s.args.i) s.args.b.now)) s.requires.0,
+      c.slot_number.ensures.1,
+    )

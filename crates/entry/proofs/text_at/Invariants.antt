@@ -1,0 +1,16 @@
+-- `entry::text_at` meets its contract. The loop's invariant: the first j bytes of the text are those at the place. Assumes nothing.
+use mathlib.Core.Path.{◌≡◌, refl, sym, ap, ◌∙◌}
+use mathlib.Core.List.{List, [], ◌∷◌, ◌++◌}
+use Prim.Native.Nat.{ℕ, suc, ◌+◌, ◌-◌, ◌≤◌, ◌<◌}
+use native.Mathlib.Numerals.{add-one}
+use native.Mathlib.Omega.{arith}
+use lib.ListN.{length, take, drop, get_or, set, length-set, length-drop}
+use lib.Seq.{take_all, take-suc, take-suc-set, get_or-drop}
+use borrow.Author.Rules.{rules}
+use Rattle.entry.proofs.text_at.Given as goal
+
+abbrev pub invariant-loop-j : goal.invariant-loop-j
+invariant-loop-j l = (l.j ≤ 20) × (length l.text ≡ 20) × (take l.j l.text ≡ take l.j (drop l.at l.table))
+
+abbrev pub decreases-loop-j : goal.decreases-loop-j
+decreases-loop-j l = 20 - l.j

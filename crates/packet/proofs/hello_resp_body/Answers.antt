@@ -1,0 +1,19 @@
+-- `packet::hello_resp_body` meets its contract: by the mode. Assumes nothing.
+use mathlib.Core.Path.{ap, ◌∙◌}
+use borrow.Author.Rules.{rules}
+use Rattle.command.specs.Command.{mode_of}
+use Rattle.packet.specs.Packet.{hello_resp_of}
+use Rattle.packet.proofs.Laws.{as_resp, read_as}
+use Rattle.packet.proofs.hello_resp_body.Goals as goal
+
+pub returns-in-Is : goal.returns-in-Is
+returns-in-Is c =
+    let m = c in
+    let r = m.before.before in
+    ap as_resp c.hello_words.ensures
+    ∙ read_as mode_of (hello_resp_of r.args.p.now) r.word.ensures r.Mode-of.ensures m.in-Is.is
+
+pub returns-in-Bad : goal.returns-in-Bad
+returns-in-Bad c =
+    let r = c in
+    read_as mode_of (hello_resp_of r.args.p.now) r.word.ensures r.Mode-of.ensures c.in-Bad.is

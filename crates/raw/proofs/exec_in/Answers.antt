@@ -1,0 +1,6 @@
+-- `raw::exec_in` meets its contract: by the cases. Assumes nothing.
+use borrow.Author.Rules.{rules}
+use Rattle.raw.proofs.exec_in.Goals as goal
+
+pub returns-in-Is : goal.returns-in-Is
+returns-in-Is c = cc

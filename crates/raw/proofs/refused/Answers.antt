@@ -1,0 +1,6 @@
+-- `raw::refused` meets its contract: part by part. Assumes nothing.
+use borrow.Author.Rules.{rules}
+use Rattle.raw.proofs.refused.Goals as goal
+
+pub returns : goal.returns
+returns c = simp (c.stepped_at.ensures, c.told-t.ensures)

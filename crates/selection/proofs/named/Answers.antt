@@ -1,0 +1,181 @@
+-- `selection::named` meets its contract. The invariants: the search from here on is the whole search, for the names and for a stem's bytes.
+-- Assumes nothing.
+use mathlib.Core.Path.{◌≡◌, refl, sym, ap, ◌∙◌}
+use mathlib.Core.Bool.{true, false}
+use mathlib.Core.List.{List, [], ◌∷◌, map}
+use mathlib.Core.Logic.{⊎_elim}
+use Prim.Native.Nat.{ℕ, ◌+◌, ◌-◌, ◌≤◌, ◌<◌}
+use native.Mathlib.Omega.{arith}
+use denote.Enum.Declared.{tag_of}
+use lib.Dec.{eqb}
+use lib.ListN.{length, take, drop, get_or, length-take, length-drop}
+use lib.Seq.{get_or-take, get_or-drop}
+use types.Run.{OneOf}
+use Rattle.base.specs.Choice.{pick}
+use borrow.Author.Tests.{eq-eqb, ne_eqb}
+use Rattle.bundle.proofs.Laws.{slot_within}
+use Rattle.bundle.specs.Bundle.{slot_of}
+use Rattle.bundle.specs.contracts.Slot.{the_type}
+use Rattle.bundle.specs.declared.Slot.{Slot}
+use Rattle.bundle.specs.declared.Slot.TheVariants as S
+use Rattle.selection.specs.Selection.{low, same}
+use Rattle.selection.proofs.Laws.{named_from, named_done, named_at, named_without, same_step, same_done, named_unequal, named_all}
+use borrow.Author.Rules.{rules}
+use Rattle.selection.proofs.named.Goals as goal
+
+-- inside the name of slot i, j of whose bytes are the stem's: the whole search is the rest of this name, then the names behind it
+record Inside (names : List ℕ) (n : ℕ) (stem : List ℕ) (start size i j : ℕ) : Type 0 where
+  below : i < n
+  within : start + size ≤ length names
+  long : size ≡ length stem
+  passed : j ≤ size
+  whole :
+      named_from names n stem 0
+      ≡ pick (same (map low (drop j stem)) (map low (drop j (take size (drop start names))))) true (named_from names n stem (i + 1))
+
+module _ {names : List ℕ} {n : ℕ} {stem : List ℕ} {start size i j : ℕ} (t : Inside names n stem start size i j) where
+  abbrev name : List ℕ
+  name = take size (drop start names)
+
+  length-name : length name ≡ size
+  length-name = simp (length-take, length-drop) (omega arith)
+
+  byte_of : j < size → get_or name j 0 ≡ get_or names (start + j) 0
+  byte_of h = rw (get_or-take, get_or-drop) refl
+
+  -- all bytes are the stem's: found
+  inside-all : size ≤ j → named_from names n stem 0 ≡ true
+  inside-all h = t.whole ∙ simp (same_done stem name j (omega arith) (omega (arith, length-name)))
+
+  -- a byte differs: on with the names behind
+  inside-differs : j < size → (low (get_or names (start + j) 0) ≡ low (get_or stem j 0) → ⊥) → named_from names n stem 0 ≡ named_from names n stem (i + 1)
+  inside-differs h d =
+      let e : eqb (low (get_or stem j 0)) (low (get_or name j 0)) ≡ false = ne_eqb _ _ (λ q. d (sym (q ∙ ap low (byte_of h)))) in
+      t.whole ∙ simp (same_step stem name j (omega arith) (omega (arith, length-name)), e)
+
+  -- a byte is the stem's: on with the next
+  inside-next : j < size → low (get_or names (start + j) 0) ≡ low (get_or stem j 0) → Inside names n stem start size i (j + 1)
+  inside-next h q =
+      let e : eqb (low (get_or stem j 0)) (low (get_or name j 0)) ≡ true = eq-eqb _ _ (sym (ap low (byte_of h) ∙ q)) in
+      record {
+        below = t.below;
+        within = t.within;
+        long = t.long;
+        passed = omega arith;
+        whole = t.whole ∙ simp (same_step stem name j (omega arith) (omega (arith, length-name)), e);
+      }
+
+-- a slot that is not `At` has no name
+nameless : (b : List ℕ) (n : ℕ) (stem : List ℕ) (i : ℕ) (x : Slot) → i < n → OneOf (1 ∷ 2 ∷ []) (tag_of the_type x) → slot_of b i ≡ x
+    → named_from b n stem i ≡ named_from b n stem (i + 1)
+nameless b n stem i (S.At start size) h k e = absurd (⊎_elim (λ q. omega arith) (λ q. omega arith) k)
+nameless b n stem i S.Absent h k e = named_without b n stem i h (λ r. rw e refl)
+nameless b n stem i S.Missing h k e = named_without b n stem i h (λ r. rw e refl)
+
+pub names-init : goal.names-init
+names-init c = (omega arith, refl, refl)
+
+pub overflow_add-i : goal.overflow_add-i
+overflow_add-i c = omega (arith, c.names-test.true, c.ranges.n)
+
+pub names-smaller-in_default : goal.names-smaller-in_default
+names-smaller-in_default c = omega (arith, c.names-test.true)
+
+pub names-preserved-in_default : goal.names-preserved-in_default
+names-preserved-in_default c =
+    let a = c.args in
+    let o = c.names in
+    let r = c.slot_at-s in
+    let below = c.names-test.true in
+    let e = nameless a.names.now a.n a.stem.now o.i r.result below c.in_default.in_default-own.keys2 (sym r.ensures.is) in
+    (omega (arith, below), o.invariant.1, o.invariant.2 ∙ e)
+
+pub overflow_add-i-then-size-stem : goal.overflow_add-i-then-size-stem
+overflow_add-i-then-size-stem c =
+    let n = c in
+    omega (arith, n.names-test.true, n.ranges.n)
+
+pub names-smaller-then-size-stem : goal.names-smaller-then-size-stem
+names-smaller-then-size-stem c = omega (arith, c.names-test.true)
+
+pub names-preserved-then-size-stem : goal.names-preserved-then-size-stem
+names-preserved-then-size-stem c =
+    let a = c.args in
+    let o = c.names in
+    let start = c.in-At.start in
+    let size = c.in-At.size in
+    let below = c.names-test.true in
+    let e = sym c.slot_at-s.ensures.is ∙ c.in-At.is in
+    let u = named_unequal a.names.now a.n a.stem.now o.i start size below e (λ q. omega (arith, c.if-size-stem.true, q)) in
+    (omega (arith, below), o.invariant.1, o.invariant.2 ∙ u)
+
+pub bytes-init : goal.bytes-init
+bytes-init c =
+    let a = c.args in
+    let o = c.names in
+    let start = c.in-At.start in
+    let size = c.in-At.size in
+    let names : List ℕ = a.names.now in
+    let below = c.names-test.true in
+    let e = sym c.slot_at-s.ensures.is ∙ c.in-At.is in (
+      o.invariant.1,
+      record {
+        below = below;
+        within = slot_within names o.i start size e;
+        long = omega (arith, c.if-size-stem.false);
+        passed = omega arith;
+        whole = o.invariant.2 ∙ named_at names a.n a.stem.now o.i start size below e;
+      },
+    )
+
+pub overflow_add-start : goal.overflow_add-start
+overflow_add-start c = omega (arith, c.bytes.invariant.1)
+
+pub bounds-names-start : goal.bounds-names-start
+bounds-names-start c = omega (arith, c.bytes.invariant.1)
+
+pub bounds-stem-j : goal.bounds-stem-j
+bounds-stem-j c = omega (arith, c.bytes.invariant.1)
+
+pub bytes-smaller : goal.bytes-smaller
+bytes-smaller c = omega (arith, c.if-stem-j.false, c.bytes.invariant.1)
+
+pub bytes-preserved : goal.bytes-preserved
+bytes-preserved c =
+    let l = c.bytes in
+    let t = l.invariant.1 in (
+      l.invariant.0,
+      inside-next t (omega (arith, c.if-stem-j.false, t.long))
+          (sym c.lower.ensures ∙ c.if-lower.false ∙ c.lower-in-bytes.ensures),
+    )
+
+pub overflow_add-i-in-names : goal.overflow_add-i-in-names
+overflow_add-i-in-names c =
+    let l = c in
+    omega (arith, l.bytes.invariant.1.below, l.ranges.n)
+
+pub names-smaller : goal.names-smaller
+names-smaller c = omega (arith, c.bytes.invariant.1)
+
+pub names-preserved : goal.names-preserved
+names-preserved c =
+    let l = c.bytes in
+    let t = l.invariant.1 in (
+      omega (arith, t.below),
+      l.invariant.0,
+      inside-differs t (omega (arith, c.if-stem-j.false, t.long))
+          (λ q. c.if-lower.true (c.lower.ensures ∙ q ∙ sym c.lower-in-bytes.ensures)),
+    )
+
+pub returns-after-names : goal.returns-after-names
+returns-after-names c =
+    let a = c.args in
+    let o = c.names in
+    let names : List ℕ = a.names.now in
+    let stem : List ℕ = a.stem.now in
+    o.invariant.1 ∙ sym (named_all names a.n stem ∙ o.invariant.2 ∙ named_done names a.n stem o.i c.names-test.false)
+
+pub returns-then-stem-j : goal.returns-then-stem-j
+returns-then-stem-j c =
+    let a = c.args in
+    sym (named_all a.names.now a.n a.stem.now ∙ inside-all c.bytes.invariant.1 (omega (arith, c.bytes.invariant.1, c.if-stem-j.true)))

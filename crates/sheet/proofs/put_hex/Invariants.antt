@@ -1,0 +1,16 @@
+-- `sheet::put_hex` meets its contract. The loop's invariant: with the j digits of what is left stored too, the page is what it is to be. Assumes nothing.
+use mathlib.Core.Path.{◌≡◌, refl, sym, ◌∙◌}
+use Prim.Native.Nat.{ℕ, suc, ◌-◌, ◌≤◌}
+use native.Mathlib.Omega.{arith}
+use lib.ListN.{length, length-set}
+use lib.Seq.{sets}
+use Rattle.sheet.specs.Sheet.{hex}
+use Rattle.sheet.proofs.Laws.{hex_stored}
+use borrow.Author.Rules.{rules}
+use Rattle.sheet.proofs.put_hex.Given as goal
+
+abbrev pub invariant-loop-j : goal.invariant-loop-j
+invariant-loop-j l = (l.j ≤ 16) × (length l.page ≡ length l.fn.page) × (sets l.page l.at (hex l.j l.rest) ≡ sets l.fn.page l.at (hex 16 l.v))
+
+abbrev pub decreases-loop-j : goal.decreases-loop-j
+decreases-loop-j l = l.j

@@ -1,0 +1,47 @@
+-- `tidy::put_lengths` meets its contract. The loop's invariant: the lengths of the first i slots are stored. Assumes nothing.
+use mathlib.Core.Path.{◌≡◌, refl, sym, ap, ◌∙◌}
+use mathlib.Core.List.{List, map}
+use Prim.Native.Nat.{ℕ, suc, ◌+◌, ◌-◌, ◌*◌, ◌≤◌}
+use native.Mathlib.Numerals.{add-one}
+use native.Mathlib.Omega.{arith}
+use lib.ListN.{length}
+use lib.Seq.{sets, length-sets}
+use Rattle.field.specs.Field.{Written, le_bytes, fields, words}
+use Rattle.field.proofs.Laws.{put_done}
+use Rattle.bundle.specs.Content.{size_in, content_of}
+use Rattle.tidied.specs.Tidy.{first_contents}
+use Rattle.tidied.proofs.Laws.{data_up_to, lengths_stored}
+use borrow.Author.Rules.{rules}
+use Rattle.tidy.proofs.put_lengths.Goals as goal
+
+pub loop-i-init : goal.loop-i-init
+unfolding fields first_contents
+loop-i-init c = (omega arith, refl, refl)
+
+pub overflow_cast-size_at : goal.overflow_cast-size_at
+overflow_cast-size_at c =
+    let l = c.loop-i in
+    let a = c.args in
+    omega (arith, c.size_at.ensures, data_up_to a.set.now l.i a.n (omega arith))
+
+pub loop-i-preserved : goal.loop-i-preserved
+loop-i-preserved c =
+    let w = c in
+    let s = w.before in
+    let l = s.loop-i in
+    let a = s.args in
+    let B : List ℕ = a.set.now in
+    let x : w.put_u32.new.0 ≡ sets l.to-1 (a.at + 4 * l.i) (le_bytes 4 s.size_at.result) =
+    ap (λ (y : Written). y.bytes) (w.put_u32.ensures ∙ put_done _ _ _ _ (omega arith)) in
+    let y : w.put_u32.new.0 ≡ sets a.to-1.now a.at (words (map size_in (first_contents B (suc l.i)))) =
+    x
+    ∙ ap (λ (k : ℕ). sets l.to-1 (a.at + 4 * l.i) (le_bytes 4 k)) s.size_at.ensures
+    ∙ ap (λ (d : List ℕ). sets d (a.at + 4 * l.i) (le_bytes 4 (size_in (content_of B l.i)))) l.invariant.2
+    ∙ sym (lengths_stored B a.to-1.now a.at l.i) in
+    (omega arith, ap length x ∙ rw length-sets l.invariant.1, rw add-one y)
+
+pub returns : goal.returns
+returns c =
+    let l = c.loop-i in
+    let e : l.i ≡ c.args.n = omega arith in
+    rw (← e) l.invariant.2

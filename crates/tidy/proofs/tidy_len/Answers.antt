@@ -1,0 +1,70 @@
+-- `tidy::tidy_len` meets its contract: by the check's answer, then by the sum. Assumes nothing.
+use mathlib.Core.Path.{◌≡◌, sym, ap, ◌∙◌}
+use mathlib.Core.Bool.{true}
+use mathlib.Core.List.{List}
+use Prim.Native.Nat.{ℕ, ◌+◌, ◌*◌, ◌<◌, ◌≤◌, min}
+use native.Mathlib.Omega.{arith}
+use lib.ListN.{length}
+use Rattle.base.proofs.Telling.{tells}
+use Rattle.bundle.specs.Bundle.{count_of, well_formed}
+use Rattle.bundle.proofs.Laws.{checked_good, checked_refused, formed}
+use Rattle.writer.specs.Writer.{data_of, most_data}
+use Rattle.tidied.specs.Tidy.{first_contents, tidy_bytes, tidy_data, tidied_told}
+use Rattle.tidied.specs.declared.Tidied.TheVariants as T
+use Rattle.tidied.proofs.Laws.{length_tidy, len_malformed, len_passes, len_made}
+use Rattle.tidy.proofs.tidy_len.Goals as goal
+use Rattle.tidy.proofs.tidy_len.Goals.{After-data_size-size}
+
+pub returns-in_default : goal.returns-in_default
+returns-in_default c =
+    let B : List ℕ = c.args.set.now in
+    let e = sym c.check_images.ensures.is ∙ c.in_default.is in
+    tells tidied_told (sym (len_malformed B (checked_refused (well_formed true B) 1 _ e)))
+
+-- behind the check: the set is well-formed, and the sum is the tidy form's, or it passes the most
+pub record Measured (set : List ℕ) (n size : ℕ) : Type 0 where
+  pub good : well_formed true set ≡ true
+  pub count : n ≡ count_of set
+  pub sum : size ≡ min (most_data + 1) (tidy_data set)
+
+measured : (c : After-data_size-size)
+    → Measured c.args.set.now c.slot_count-n.result c.data_size-size.result
+measured c =
+    let B : List ℕ = c.args.set.now in
+    let e = sym c.check_images.ensures.is ∙ c.in-Good.is in
+    record {
+      good = checked_good (well_formed true B) 1 e;
+      count = c.slot_count-n.ensures;
+      sum = c.data_size-size.ensures ∙ ap (λ (k : ℕ). min (most_data + 1) (length (data_of (first_contents B k)))) c.slot_count-n.ensures;
+    }
+
+pub returns-then-size-gt-MOST : goal.returns-then-size-gt-MOST
+returns-then-size-gt-MOST c =
+    let B : List ℕ = c.args.set.now in
+    let m = measured (goal.at.returns-then-size-gt-MOST c).After-data_size-size in
+    let l : most_data < tidy_data B = omega (arith, m.sum) in
+    tells tidied_told (sym (len_passes B m.good l))
+
+pub overflow_mul-result : goal.overflow_mul-result
+overflow_mul-result c =
+    let m = measured (goal.at.overflow_mul-result c).After-data_size-size in
+    omega (arith, m.count, (formed true c.args.set.now m.good).few)
+
+pub overflow_add-result : goal.overflow_add-result
+overflow_add-result c =
+    let m = measured (goal.at.overflow_add-result c).After-data_size-size in
+    omega (arith, m.count, (formed true c.args.set.now m.good).few)
+
+pub overflow_add-result-2 : goal.overflow_add-result-2
+overflow_add-result-2 c =
+    let m = measured (goal.at.overflow_add-result-2 c).After-data_size-size in
+    omega (arith, m.count, (formed true c.args.set.now m.good).few)
+
+pub returns : goal.returns
+returns c =
+    let B : List ℕ = c.args.set.now in
+    let m = measured (goal.at.returns c).After-data_size-size in
+    let l : tidy_data B ≤ most_data = omega (arith, m.sum) in
+    let k : 8 + 8 * c.slot_count-n.result + c.data_size-size.result ≡ length (tidy_bytes B) =
+    omega (arith, m.count, m.sum, length_tidy B) in
+    tells tidied_told (ap T.Made k ∙ sym (len_made B m.good l))
