@@ -15,7 +15,7 @@ use session::{Answer, Filling, Phase, Region, Session};
 use verdict::{ExecCommand, QdlBackend};
 
 // What the words say; the session begins at 0, each other part where the one before it ends.
-#[derive(Drop)]
+#[derive(Clone, Copy)]
 struct Case {
     mode: u32,
     command: u32,
