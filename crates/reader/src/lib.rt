@@ -1,6 +1,5 @@
-// The body of a packet is read field by field by a reader that keeps the packet's bytes and an offset.
-// The prover walks no function over such a struct, so these are few and thin, and each is proved by hand; the work is done by
-// `field::u32_at` and `field::u64_at`. `word_at` and `long_at` have plain parameters: whoever calls them needs no proof by hand.
+// The body of a packet is read field by field by a reader that keeps the packet's bytes and an offset; the work is done by `field::u32_at` and
+// `field::u64_at`. `word_at` and `long_at` have plain parameters.
 #![tactic(auto)]
 
 ghost use Rattle.std.specs.Prelude.{◌≡◌};
@@ -8,7 +7,7 @@ ghost use Rattle.reader.specs.Reader.{reader_at, word_of, long_of, word_at, long
 
 use field::{Field4, Field8, u32_at, u64_at};
 
-#[derive(Drop)]
+#[derive(Clone, Copy)]
 pub struct Reader<'a> {
     pub src: &'a [u8],
     pub at: usize,
