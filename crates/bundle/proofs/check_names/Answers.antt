@@ -7,10 +7,10 @@ use Rattle.bundle.proofs.check_names.Goals as goal
 
 pub returns-then-well_formed : goal.returns-then-well_formed
 returns-then-well_formed c =
-    let w : well_formed false c.args.names.now ≡ true = sym c.well-formed-2.ensures ∙ c.if-well_formed.true in
+    let w : well_formed false c.args.names.now ≡ true = sym c.well_formed-2.ensures ∙ c.if-well_formed.true in
     tells checked_told (simp w)
 
 pub returns : goal.returns
 returns c =
-    let w : well_formed false c.args.names.now ≡ false = sym c.well-formed-2.ensures ∙ c.if-well_formed.false in
+    let w : well_formed false c.args.names.now ≡ false = sym c.well_formed-2.ensures ∙ c.if-well_formed.false in
     tells checked_told (simp w)

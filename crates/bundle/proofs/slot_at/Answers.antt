@@ -37,17 +37,17 @@ returns-then-is_absent c =
     let n = k.before.before.before.before in
     tells slot_told
     (gap_told _ _ n.if-b-lt8.false n.number-n.ensures.0 k.if-b-data.false k.if-n-i.false
-    k.start_of_lem.ensures.0 k.length_of-size.ensures.0 c.is_absent.ensures c.if-is_absent.true)
+    k.start_of-start.ensures.0 k.length_of-size.ensures.0 c.is_absent.ensures c.if-is_absent.true)
 
 pub overflow_add-from : goal.overflow_add-from
 overflow_add-from c =
     let k = c in
-    omega (arith, k.number-n.ensures.1, k.start_of_lem.ensures.1)
+    omega (arith, k.number-n.ensures.1, k.start_of-start.ensures.1)
 
 pub overflow_add-from-2 : goal.overflow_add-from-2
 overflow_add-from-2 c =
     let k = c in
-    omega (arith, k.number-n.ensures.1, k.start_of_lem.ensures.1, k.length_of-size.ensures.1)
+    omega (arith, k.number-n.ensures.1, k.start_of-start.ensures.1, k.length_of-size.ensures.1)
 
 pub returns-then-b-from : goal.returns-then-b-from
 returns-then-b-from c =
@@ -55,7 +55,7 @@ returns-then-b-from c =
     let n = k.before.before.before.before in
     tells slot_told
     (past_the_bytes _ _ n.if-b-lt8.false n.number-n.ensures.0 k.if-b-data.false k.if-n-i.false
-    k.start_of_lem.ensures.0 k.length_of-size.ensures.0 c.is_absent.ensures c.if-is_absent.false c.if-b-from.true)
+    k.start_of-start.ensures.0 k.length_of-size.ensures.0 c.is_absent.ensures c.if-is_absent.false c.if-b-from.true)
 
 pub returns : goal.returns
 returns c =
@@ -63,4 +63,4 @@ returns c =
     let n = k.before.before.before.before in
     tells slot_told
     (slot_told_lem _ _ n.if-b-lt8.false n.number-n.ensures.0 k.if-b-data.false k.if-n-i.false
-    k.start_of_lem.ensures.0 k.length_of-size.ensures.0 c.is_absent.ensures c.if-is_absent.false c.if-b-from.false)
+    k.start_of-start.ensures.0 k.length_of-size.ensures.0 c.is_absent.ensures c.if-is_absent.false c.if-b-from.false)

@@ -12,15 +12,15 @@ length_of-size-requires c κs = (c.requires.0, c.requires.2, c.requires.3)
 pub returns-then-is_absent : goal.returns-then-is_absent
 returns-then-is_absent c =
     let m = c in
-    gap_good _ _ m.start_of_lem.ensures.0 m.length_of-size.ensures.0 c.is_absent.ensures _ c.if-is_absent.true
+    gap_good _ _ m.start_of-start.ensures.0 m.length_of-size.ensures.0 c.is_absent.ensures _ c.if-is_absent.true
 
 pub overflow_add-result : goal.overflow_add-result
 overflow_add-result c =
     let m = c in
-    omega (arith, m.start_of_lem.ensures.1, m.length_of-size.ensures.1)
+    omega (arith, m.start_of-start.ensures.1, m.length_of-size.ensures.1)
 
 pub returns : goal.returns
 returns c =
     let m = c in
-    range_good _ _ m.start_of_lem.ensures.0 m.length_of-size.ensures.0 c.is_absent.ensures _
+    range_good _ _ m.start_of-start.ensures.0 m.length_of-size.ensures.0 c.is_absent.ensures _
     m.requires.1 c.if-is_absent.false

@@ -15,8 +15,8 @@ use Rattle.packet_phase.proofs.whole.Goals as goal
 pub slice_bounds-judge-end : goal.slice_bounds-judge-end
 slice_bounds-judge-end c =
     let a = c.args in
-    let l : c.least-k.result ≤ length a.t3 = omega arith in
-    sym (length-take-le _ a.t3 l)
+    let l : c.least-k.result ≤ length a.w = omega arith in
+    sym (length-take-le _ a.w l)
 
 pub returns : goal.returns
 unfolding whole_of
@@ -24,7 +24,7 @@ returns c =
     let j = c in
     let m = j.before.before in
     let a = m.args in
-    let w : List ℕ = a.t3 in
+    let w : List ℕ = a.w in
     let t : List ℕ = a.table.now in
     let y : List ℕ = a.reply.now in
     let f : length w ≡ 48 = omega (arith, m.well-formed) in

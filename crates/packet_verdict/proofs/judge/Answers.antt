@@ -11,7 +11,7 @@ returns-in-Is c =
     let d = q.before.before in
     let a = d.args in
     tells verdict_told
-    (c.on_body_lem.ensures ∙ ap (on_decoded a.opening a.set.now a.tsize a.rsize) (sym q.in-Is.is ∙ d.sahara_parse_packet.ensures.is))
+    (c.on_body.ensures ∙ ap (on_decoded a.opening a.set.now a.tsize a.rsize) (sym q.in-Is.is ∙ d.sahara_parse_packet.ensures.is))
 
 pub returns-in-Refused : goal.returns-in-Refused
 unfolding verdict_of

@@ -37,6 +37,6 @@ returns c =
     let a = w.args in
     let t : List ℕ = a.table.now in
     let names : List ℕ = a.names.now in
-    let e : forecast_of chunk (entries_of (field_size v.width_of_lem.result) t) names ≡ forecast_raw t a.width names =
-    rw v.width_of_lem.ensures (a-width _ _ _ (sym w.is_width.ensures ∙ not-false _ w.if-not-is_width.false-raw)) in
+    let e : forecast_of chunk (entries_of (field_size v.width_of.result) t) names ≡ forecast_raw t a.width names =
+    rw v.width_of.ensures (a-width _ _ _ (sym w.is_width.ensures ∙ not-false _ w.if-not-is_width.false-raw)) in
     c.raw_forecast-2.ensures ∙ ap raw_forecast (g.forecast_table-2.ensures.is ∙ e)

@@ -60,7 +60,7 @@ come-to g v e =
     ap (λ (z : Advance). advanced z (after c)) (sym e)
     ∙ g.advance_region-a.ensures
     ∙ ap (λ (z : Width). advance_of z u.Opening-of.result (get_or n 0 0) (get_or n 1 0) x.region_at-x.result m a.table.now a.out.now)
-    v.width_of_lem.ensures
+    v.width_of-width.ensures
     ∙ ap (λ (z : Opening). advance_of (width_of (get_or n 8 0)) z (get_or n 0 0) (get_or n 1 0) x.region_at-x.result m a.table.now a.out.now)
     u.Opening-of.ensures
     ∙ ap (λ (z : Region). advance_of (width_of (get_or n 8 0)) (opening_of (get_or h 0 0) (get_or h 1 0) (get_or h 2 0)) (get_or n 0 0) (get_or n 1 0) z m a.table.now a.out.now)

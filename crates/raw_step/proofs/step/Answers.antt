@@ -34,8 +34,8 @@ abbrev read-2 : In-Good-check_names → After-raw_at-s
 read-2 c = read c
 
 -- what was tested is the session
-tested : (i : After-is_session-is_session) (b : Bool) → i.is_session_lem.result ≡ b → is_session (at c) ≡ b
-tested i b e = ap is_session (sym i.raw_at-s.ensures) ∙ sym i.is_session_lem.ensures ∙ e
+tested : (i : After-is_session-is_session) (b : Bool) → i.is_session-is_session.result ≡ b → is_session (at c) ≡ b
+tested i b e = ap is_session (sym i.raw_at-s.ensures) ∙ sym i.is_session-is_session.ensures ∙ e
 
 -- behind each check its bundle is well formed
 images-formed : (c : In-Good) → well_formed true (begun (read c)).args.set.now ≡ true

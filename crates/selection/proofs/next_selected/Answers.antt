@@ -17,7 +17,7 @@ use Rattle.selection.proofs.next_selected.Goals as goal
 use Rattle.selection.proofs.next_selected.Goals.{After-selects}
 
 -- what was answered c entry i
-answered : (c : After-selects invariant-loop decreases-loop) (b : Bool) → c.selects.result ≡ b → (let a = c.args in
+answered : (c : After-selects) (b : Bool) → c.selects.result ≡ b → (let a = c.args in
     selected_at (field_size a.width) a.names.now a.table.now c.loop-i.i ≡ b)
 answered c b e =
     let a = c.args in

@@ -12,12 +12,12 @@ use Rattle.utf8.proofs.sequences.Goals as goal
 use Rattle.utf8.proofs.sequences.Goals.{After-behind-i, After-shared_slice_known-in-loop-i-1, Else-class-eq48}
 
 -- the byte c `i` is one
-byte : (c : After-shared_slice_known-in-loop-i-1 invariant-loop decreases-loop)
+byte : (c : After-shared_slice_known-in-loop-i-1)
     → (let l = c in get_or l.args.s.now l.loop-i.i 0 < 256)
 byte c = omega (arith, c.shared_slice_known-in-loop-i-1.given c.loop-i.i)
 
 -- where its digit c not '0': the digit, and the row that this is of
-digit : (c : Else-class-eq48 invariant-loop decreases-loop)
+digit : (c : Else-class-eq48)
     → (let l = c in
     let a = l.args in
     let d = get_or a.classes.now (get_or a.s.now l.loop-i.i 0) 0 in
@@ -25,21 +25,21 @@ digit : (c : Else-class-eq48 invariant-loop decreases-loop)
 digit c =
     let l = c in
     let a = l.args in
-    let d = is_digit a.classes.now a.t2 l.requires (get_or a.s.now l.loop-i.i 0) (byte c) in
+    let d = is_digit a.classes.now a.rows l.requires (get_or a.s.now l.loop-i.i 0) (byte c) in
     (omega (arith, d.0), d.1)
 
-leads : (c : Else-class-eq48 invariant-loop decreases-loop)
+leads : (c : Else-class-eq48)
     → (let l = c in
     let a = l.args in
     let b = get_or a.s.now l.loop-i.i 0 in
-    lead (get_or a.t2 (get_or a.classes.now b 0 - 0x31) (follow 0 0 0)) ≡ lead_of b)
+    lead (get_or a.rows (get_or a.classes.now b 0 - 0x31) (follow 0 0 0)) ≡ lead_of b)
 leads c =
     let l = c in
     let a = l.args in
-    its_row a.classes.now a.t2 l.requires (get_or a.s.now l.loop-i.i 0) (byte c) c.if-class-eq48.false
+    its_row a.classes.now a.rows l.requires (get_or a.s.now l.loop-i.i 0) (byte c) c.if-class-eq48.false
 
 -- behind a sequence that is there: further on, and the bytes from there on say what the whole says
-came : (c : After-behind-i invariant-loop decreases-loop) → (c.behind-i.result ≡ 0 → ⊥)
+came : (c : After-behind-i) → (c.behind-i.result ≡ 0 → ⊥)
     → (let l = c in
     let s = l.args.s.now in
     (l.loop-i.i < c.behind-i.result) × (utf8 (drop c.behind-i.result s) ≡ utf8 s))
@@ -65,7 +65,7 @@ returns-then-class-eq48 c =
     let l = k.before in
     let a = l.args in
     let s = a.s.now in
-    let e = no_row a.classes.now a.t2 l.requires (get_or s l.loop-i.i 0) (byte (goal.at.returns-then-class-eq48 c).After-shared_slice_known-in-loop-i-1) c.if-class-eq48.true in
+    let e = no_row a.classes.now a.rows l.requires (get_or s l.loop-i.i 0) (byte (goal.at.returns-then-class-eq48 c).After-shared_slice_known-in-loop-i-1) c.if-class-eq48.true in
     sym (goes_turn s l.loop-i.i no_lead k.loop-i-test.true e) ∙ l.loop-i.invariant
 
 pub overflow_cast-class-in-loop-i : goal.overflow_cast-class-in-loop-i

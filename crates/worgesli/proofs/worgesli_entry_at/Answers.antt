@@ -32,5 +32,5 @@ returns c =
     let w = v.before in
     let a = w.args in
     let q : e.entry_at.result ≡ entry_raw a.table.now a.width a.i =
-    e.entry_at.ensures ∙ rw v.width_of_lem.ensures (a-width _ _ _ (sym w.is_width.ensures ∙ not-false _ w.if-not-is_width.false-raw)) in
+    e.entry_at.ensures ∙ rw v.width_of.ensures (a-width _ _ _ (sym w.is_width.ensures ∙ not-false _ w.if-not-is_width.false-raw)) in
     c.raw_entry-2.ensures ∙ ap raw_entry q

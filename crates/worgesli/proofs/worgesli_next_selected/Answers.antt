@@ -39,4 +39,4 @@ returns c =
     let v = c in
     let w = v.before in
     c.next_selected.ensures
-    ∙ rw v.width_of_lem.ensures (a-width _ _ _ _ _ (sym w.is_width.ensures ∙ not-false _ w.if-not-is_width.false-raw))
+    ∙ rw v.width_of.ensures (a-width _ _ _ _ _ (sym w.is_width.ensures ∙ not-false _ w.if-not-is_width.false-raw))

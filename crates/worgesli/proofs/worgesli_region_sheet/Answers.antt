@@ -32,4 +32,4 @@ returns c =
     let w = v.before in
     let e = r.region_sheet.ensures.is in
     rw c.raw_sheet-2.ensures
-    (ap crossed e ∙ rw v.width_of_lem.ensures (ap crossed (a-width _ _ _ (sym w.is_width.ensures ∙ not-false _ w.if-not-is_width.false-raw))))
+    (ap crossed e ∙ rw v.width_of.ensures (ap crossed (a-width _ _ _ (sym w.is_width.ensures ∙ not-false _ w.if-not-is_width.false-raw))))
