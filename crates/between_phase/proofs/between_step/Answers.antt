@@ -26,7 +26,7 @@ returns-then-why-ne0 c =
     c.if-why-ne0.true c.untouched.ensures)
 
 pub next_region-requires : goal.next_region-requires
-next_region-requires c κs =
+next_region-requires c =
     let g = c in
     let b = g.before in
     let a = b.args in

@@ -27,7 +27,7 @@ returns-then-entries-i c =
     rw (← found (goal.at.returns-then-entries-i c).After-next_selected-i) (simp (le-ltb c.next_selected-i.result n h) c.moved.ensures)
 
 pub open_region-requires : goal.open_region-requires
-open_region-requires c κs =
+open_region-requires c =
     let b = c in
     entry_within (field_size b.args.s.width) b.args.k c.next_selected-i.result b.args.table.now (omega arith) b.requires
 

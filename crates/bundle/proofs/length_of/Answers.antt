@@ -8,7 +8,7 @@ use borrow.Author.Rules.{rules}
 use Rattle.bundle.proofs.length_of.Goals as goal
 
 pub slot_number-requires : goal.slot_number-requires
-slot_number-requires c κs = omega (arith, c.requires.1, c.requires.2)
+slot_number-requires c = omega (arith, c.requires.1, c.requires.2)
 
 pub returns : goal.returns
 returns c =

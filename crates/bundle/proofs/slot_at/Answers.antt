@@ -9,7 +9,7 @@ pub returns-then-b-lt8 : goal.returns-then-b-lt8
 returns-then-b-lt8 c = tells slot_told (no_count _ _ c.if-b-lt8.true)
 
 pub number-n-requires : goal.number-n-requires
-number-n-requires c κs = omega (arith, c.if-b-lt8.false)
+number-n-requires c = omega (arith, c.if-b-lt8.false)
 
 pub overflow_mul-data : goal.overflow_mul-data
 overflow_mul-data c = omega (arith, c.number-n.ensures.1)
@@ -26,10 +26,10 @@ returns-then-n-i c =
     tells slot_told (no_slot _ _ n.if-b-lt8.false n.number-n.ensures.0 c.if-b-data.false c.if-n-i.true)
 
 pub start_of-start-requires : goal.start_of-start-requires
-start_of-start-requires c κs = (c.if-b-data.false, c.if-n-i.false)
+start_of-start-requires c = (c.if-b-data.false, c.if-n-i.false)
 
 pub length_of-size-requires : goal.length_of-size-requires
-length_of-size-requires c κs = (c.number-n.ensures.0, c.if-b-data.false, c.if-n-i.false)
+length_of-size-requires c = (c.number-n.ensures.0, c.if-b-data.false, c.if-n-i.false)
 
 pub returns-then-is_absent : goal.returns-then-is_absent
 returns-then-is_absent c =

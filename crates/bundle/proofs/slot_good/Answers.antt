@@ -4,10 +4,10 @@ use Rattle.bundle.proofs.Read.{gap_good, range_good}
 use Rattle.bundle.proofs.slot_good.Goals as goal
 
 pub start_of-start-requires : goal.start_of-start-requires
-start_of-start-requires c κs = (c.requires.2, c.requires.3)
+start_of-start-requires c = (c.requires.2, c.requires.3)
 
 pub length_of-size-requires : goal.length_of-size-requires
-length_of-size-requires c κs = (c.requires.0, c.requires.2, c.requires.3)
+length_of-size-requires c = (c.requires.0, c.requires.2, c.requires.3)
 
 pub returns-then-is_absent : goal.returns-then-is_absent
 returns-then-is_absent c =

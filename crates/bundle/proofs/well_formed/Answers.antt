@@ -7,13 +7,13 @@ pub returns-then-b-lt8 : goal.returns-then-b-lt8
 returns-then-b-lt8 c = no_header _ _ c.if-b-lt8.true
 
 pub number-n-requires : goal.number-n-requires
-number-n-requires c κs = omega (arith, c.if-b-lt8.false)
+number-n-requires c = omega (arith, c.if-b-lt8.false)
 
 pub returns-then-n-gt64 : goal.returns-then-n-gt64
 returns-then-n-gt64 c = too_many _ _ c.if-b-lt8.false c.number-n.ensures.0 (omega (arith, c.if-n-gt64.true))
 
 pub number-d-requires : goal.number-d-requires
-number-d-requires c κs = c.if-b-lt8.false
+number-d-requires c = c.if-b-lt8.false
 
 pub overflow_mul-n : goal.overflow_mul-n
 overflow_mul-n c = omega (arith, c.if-n-gt64.false)
@@ -31,7 +31,7 @@ returns-then-b-n c =
     (omega (arith, m.if-n-gt64.false)) (λ q. omega (arith, c.if-b-n.true, q))
 
 pub slots_good-requires : goal.slots_good-requires
-slots_good-requires c κs =
+slots_good-requires c =
     let m = c in
     (m.number-n.ensures.0, c.number-d.ensures.0, omega (arith, c.if-b-n.false))
 

@@ -42,7 +42,7 @@ pub overflow_mul-entry_size : goal.overflow_mul-entry_size
 overflow_mul-entry_size c = rw c.entry_size.ensures (omega (arith, fits (goal.at.overflow_mul-entry_size c).After-entry_size))
 
 pub decode-entry-requires : goal.decode-entry-requires
-decode-entry-requires c κs = rw c.entry_size.ensures (fits (goal.at.decode-entry-requires c).After-entry_size)
+decode-entry-requires c = rw c.entry_size.ensures (fits (goal.at.decode-entry-requires c).After-entry_size)
 
 pub returns : goal.returns
 returns c =

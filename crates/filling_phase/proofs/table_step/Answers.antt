@@ -27,7 +27,7 @@ returns-then-why-ne0 c =
     g.filling_limit.ensures c.if-why-ne0.true c.untouched.ensures)
 
 pub fill-n-requires : goal.fill-n-requires
-fill-n-requires c κs =
+fill-n-requires c =
     let g = c in
     let a = (begun (goal.at.fill-n-requires c).After-guard-why).args in
     room a.s a.x a.table.now a.out.now g.guard-why.ensures g.filling_limit.ensures c.if-why-ne0.false

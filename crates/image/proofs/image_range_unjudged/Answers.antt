@@ -21,7 +21,7 @@ slot_is c =
     ∙ ap (slot_of a.set.now) (c.slot_for-slot.ensures ∙ ap (λ (n : ℕ). slot_for n a.id.0) c.u32_padded-n.ensures))
 
 pub part_of-requires : goal.part_of-requires
-part_of-requires c κs =
+part_of-requires c =
     let s = c in
     omega (arith, slot_within _ _ _ _ (slot_is (goal.at.part_of-requires c).After-slot_at ∙ c.in-At.is))
 

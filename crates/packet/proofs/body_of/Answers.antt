@@ -4,49 +4,49 @@ use native.Mathlib.Omega.{arith}
 use Rattle.packet.proofs.body_of.Goals as goal
 
 pub hello_req_body-requires : goal.hello_req_body-requires
-hello_req_body-requires c κs = rw c.in-Hello.is at c.requires
+hello_req_body-requires c = rw c.in-Hello.is at c.requires
 
 pub hello_resp_body-requires : goal.hello_resp_body-requires
-hello_resp_body-requires c κs = rw c.in-HelloResp.is at c.requires
+hello_resp_body-requires c = rw c.in-HelloResp.is at c.requires
 
 pub read_req-requires : goal.read_req-requires
-read_req-requires c κs = rw c.in-ReadData.is at c.requires
+read_req-requires c = rw c.in-ReadData.is at c.requires
 
 pub word-requires : goal.word-requires
-word-requires c κs = let l = rw c.in-EndOfImage.is at c.requires in omega arith
+word-requires c = let l = rw c.in-EndOfImage.is at c.requires in omega arith
 
 pub word-requires-in-EndOfImage : goal.word-requires-in-EndOfImage
-word-requires-in-EndOfImage c κs = let l = rw c.in-EndOfImage.is at c.requires in omega arith
+word-requires-in-EndOfImage c = let l = rw c.in-EndOfImage.is at c.requires in omega arith
 
 pub word-requires-in-DoneResp : goal.word-requires-in-DoneResp
-word-requires-in-DoneResp c κs = let l = rw c.in-DoneResp.is at c.requires in omega arith
+word-requires-in-DoneResp c = let l = rw c.in-DoneResp.is at c.requires in omega arith
 
 pub exec_resp_body-requires : goal.exec_resp_body-requires
-exec_resp_body-requires c κs = rw c.in-ExecuteResp.is at c.requires
+exec_resp_body-requires c = rw c.in-ExecuteResp.is at c.requires
 
 pub exec_data_body-requires : goal.exec_data_body-requires
-exec_data_body-requires c κs = rw c.in-ExecuteData.is at c.requires
+exec_data_body-requires c = rw c.in-ExecuteData.is at c.requires
 
 pub mem64-requires : goal.mem64-requires
-mem64-requires c κs = rw c.in-MemDebug64.is at c.requires
+mem64-requires c = rw c.in-MemDebug64.is at c.requires
 
 pub mem64-m-requires : goal.mem64-m-requires
-mem64-m-requires c κs = rw c.in-MemRead64.is at c.requires
+mem64-m-requires c = rw c.in-MemRead64.is at c.requires
 
 pub read_data64-requires : goal.read_data64-requires
-read_data64-requires c κs = rw c.in-ReadData64.is at c.requires
+read_data64-requires c = rw c.in-ReadData64.is at c.requires
 
 pub word-requires-in-MemDebug : goal.word-requires-in-MemDebug
-word-requires-in-MemDebug c κs = let l = rw c.in-MemDebug.is at c.requires in omega arith
+word-requires-in-MemDebug c = let l = rw c.in-MemDebug.is at c.requires in omega arith
 
 pub word-requires-in-MemDebug-2 : goal.word-requires-in-MemDebug-2
-word-requires-in-MemDebug-2 c κs = let l = rw c.in-MemDebug.is at c.requires in omega arith
+word-requires-in-MemDebug-2 c = let l = rw c.in-MemDebug.is at c.requires in omega arith
 
 pub word-requires-in-MemRead : goal.word-requires-in-MemRead
-word-requires-in-MemRead c κs = let l = rw c.in-MemRead.is at c.requires in omega arith
+word-requires-in-MemRead c = let l = rw c.in-MemRead.is at c.requires in omega arith
 
 pub word-requires-in-MemRead-2 : goal.word-requires-in-MemRead-2
-word-requires-in-MemRead-2 c κs = let l = rw c.in-MemRead.is at c.requires in omega arith
+word-requires-in-MemRead-2 c = let l = rw c.in-MemRead.is at c.requires in omega arith
 
 pub returns-in-Hello : goal.returns-in-Hello
 returns-in-Hello c = rw c.in-Hello.is c.hello_req_body.ensures

@@ -18,7 +18,7 @@ returns-then-why-ne0 c =
     c.if-why-ne0.true c.untouched.ensures)
 
 pub packet-requires : goal.packet-requires
-packet-requires c κs =
+packet-requires c =
     let g = c in
     let a = g.args in
     (passed a.s _ a.out.now g.guard-why.ensures c.if-why-ne0.false).room

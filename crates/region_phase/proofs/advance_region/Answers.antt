@@ -24,7 +24,7 @@ returns-then-region_limit c =
     simp (le-ltb _ _ r.if-out-lt48.false, reads, sym c.region_limit.ensures ∙ c.if-region_limit.true)
 
 pub advance_within-requires : goal.advance_within-requires
-advance_within-requires c κs =
+advance_within-requires c =
     let l = c in
     let r = l.before.before in
     let a = r.args in

@@ -20,7 +20,7 @@ returns-then-x c =
     simp (i.if-due.false, eq-eqb _ _ i.if-x-eq0.true, ne_eqb _ _ i.if-x-eq0-2.false, le-leb _ _ c.if-x.true)
 
 pub ask-requires : goal.ask-requires
-ask-requires c κs =
+ask-requires c =
     let b = c in
     (b.requires.0, c.if-x.false, b.requires.3 c.if-x-eq0-2.false, b.requires.1)
 
@@ -39,7 +39,7 @@ unfolding advance_within
 returns-then-came-eq0 c = simp (c.if-due.false, ne_eqb _ _ c.if-x-eq0.false, eq-eqb _ _ c.if-came-eq0.true)
 
 pub hand_out-requires : goal.hand_out-requires
-hand_out-requires c κs = c.requires.2
+hand_out-requires c = c.requires.2
 
 pub returns : goal.returns
 unfolding advance_within

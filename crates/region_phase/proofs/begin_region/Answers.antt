@@ -46,7 +46,7 @@ returns-then-past_memory c =
     simp (sym (tested (goal.at.returns-then-past_memory c).After-check_after_open-check) ∙ m.in_default.is, z, c.moved-then-past_memory.ensures, c.past_end.ensures)
 
 pub close-requires : goal.close-requires
-close-requires c κs =
+close-requires c =
     let b = begun (goal.at.close-requires c).After-check_after_open-check in
     let h = there_fits (field_size b.args.s.width) b.args.table.now b.args.x.entry b.pre.1 in
     omega arith
@@ -63,7 +63,7 @@ returns-then-x c =
     simp (sym (tested (goal.at.returns-then-x c).After-check_after_open-check) ∙ m.in_default.is, z, le-leb _ _ c.if-x.true, c.close.ensures)
 
 pub ask-c-requires : goal.ask-c-requires
-ask-c-requires c κs =
+ask-c-requires c =
     let e = c in
     let m = e.before in
     let b = begun (goal.at.ask-c-requires c).After-check_after_open-check in

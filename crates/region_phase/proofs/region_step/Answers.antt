@@ -53,7 +53,7 @@ passed g v e never =
     (λ why q. never why (ap (λ (z : Advanced). z.advance) q ∙ e)) (sym g.advance_region-a.ensures)
 
 pub begin_region-requires : goal.begin_region-requires
-begin_region-requires c κs =
+begin_region-requires c =
     let s = c in
     let g = s.before.before.before.before in
     let a = (begun (goal.at.begin_region-requires c).After-advance_region-a).args in
@@ -67,7 +67,7 @@ begin_region-requires c κs =
     (room, entry_within (field_size a.s.width) a.k a.x.entry a.table.now w.entry w.table, p.reads)
 
 pub close-requires : goal.close-requires
-close-requires c κs =
+close-requires c =
     let g = c in
     let a = (begun (goal.at.close-requires c).After-advance_region-a).args in
     let p = passed g D.Closes c.in-Closes.is refused≢closes in

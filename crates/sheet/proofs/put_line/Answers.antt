@@ -44,7 +44,7 @@ room-measured : (c : After-put_hex-2)
 room-measured c = omega (arith, measured c, c.requires)
 
 pub put_name-requires : goal.put_name-requires
-put_name-requires c κs = (omega (arith, c.requires), twenty (goal.at.put_name-requires c).After-filename-2-1)
+put_name-requires c = (omega (arith, c.requires), twenty (goal.at.put_name-requires c).After-filename-2-1)
 
 pub overflow_add-page : goal.overflow_add-page
 overflow_add-page c = omega (arith, small (goal.at.overflow_add-page c).After-filename-2-1)
@@ -56,7 +56,7 @@ pub overflow_add-at : goal.overflow_add-at
 overflow_add-at c = omega (arith, small (goal.at.overflow_add-at c).After-filename-2-1)
 
 pub put_hex-requires : goal.put_hex-requires
-put_hex-requires c κs = simp length-set (omega (arith, room-named (goal.at.put_hex-requires c).After-put_name))
+put_hex-requires c = simp length-set (omega (arith, room-named (goal.at.put_hex-requires c).After-put_name))
 
 pub overflow_add-page-2 : goal.overflow_add-page-2
 overflow_add-page-2 c = omega (arith, small (goal.at.overflow_add-page-2 c).After-filename-2-1)
@@ -68,7 +68,7 @@ pub overflow_add-at-2 : goal.overflow_add-at-2
 overflow_add-at-2 c = omega (arith, small (goal.at.overflow_add-at-2 c).After-filename-2-1)
 
 pub put_hex-requires-2 : goal.put_hex-requires-2
-put_hex-requires-2 c κs = simp length-set (omega (arith, room-based (goal.at.put_hex-requires-2 c).After-put_hex))
+put_hex-requires-2 c = simp length-set (omega (arith, room-based (goal.at.put_hex-requires-2 c).After-put_hex))
 
 pub overflow_add-page-3 : goal.overflow_add-page-3
 overflow_add-page-3 c = omega (arith, small (goal.at.overflow_add-page-3 c).After-filename-2-1)

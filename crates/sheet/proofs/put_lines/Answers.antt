@@ -24,7 +24,7 @@ pub overflow_mul-i : goal.overflow_mul-i
 overflow_mul-i c = omega arith
 
 pub put_line-requires : goal.put_line-requires
-put_line-requires c κs = omega arith
+put_line-requires c = omega arith
 
 pub loop-i-preserved : goal.loop-i-preserved
 loop-i-preserved c =

@@ -16,7 +16,7 @@ pub loop-j-init : goal.loop-j-init
 loop-j-init c = (omega arith, refl, refl)
 
 pub column-requires : goal.column-requires
-column-requires c κs = (c.find-k.ensures, omega arith)
+column-requires c = (c.find-k.ensures, omega arith)
 
 pub loop-j-preserved : goal.loop-j-preserved
 loop-j-preserved c =

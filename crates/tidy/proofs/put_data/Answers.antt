@@ -24,7 +24,7 @@ overflow_add-at c =
     omega (arith, data_up_to a.set.now l.i a.n (omega arith))
 
 pub put_content-requires : goal.put_content-requires
-put_content-requires c κs =
+put_content-requires c =
     let l = c.loop-i in
     let a = c.args in
     omega (arith, data_up_to a.set.now l.i a.n (omega arith))

@@ -52,17 +52,17 @@ length-measured : (c : After-put_lengths)
 length-measured c = ap length c.put_lengths.ensures ∙ rw length-sets (length-started c)
 
 pub put_starts-requires : goal.put_starts-requires
-put_starts-requires c κs =
+put_starts-requires c =
     let h = c in
     (omega (arith, room (goal.at.put_starts-requires c).After-put_u32, length-sized (goal.at.put_starts-requires c).After-put_u32-2), omega arith)
 
 pub put_lengths-requires : goal.put_lengths-requires
-put_lengths-requires c κs =
+put_lengths-requires c =
     let s = c in
     (omega (arith, room (goal.at.put_lengths-requires c).After-put_u32, length-started (goal.at.put_lengths-requires c).After-put_starts), omega arith)
 
 pub put_data-requires : goal.put_data-requires
-put_data-requires c κs =
+put_data-requires c =
     let l = c in
     omega (arith, room (goal.at.put_data-requires c).After-put_u32, length-measured (goal.at.put_data-requires c).After-put_lengths)
 

@@ -6,7 +6,7 @@ use Rattle.tidied.proofs.Laws.{tidy_refused}
 use Rattle.tidy.proofs.tidy.Goals as goal
 
 pub tidy_of-requires : goal.tidy_of-requires
-tidy_of-requires c κs = sym c.tidy_len.ensures.is ∙ c.in-Made.is
+tidy_of-requires c = sym c.tidy_len.ensures.is ∙ c.in-Made.is
 
 pub shape_of-to : goal.shape_of-to
 shape_of-to c = c.to-1.given

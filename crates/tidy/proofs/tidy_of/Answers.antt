@@ -49,7 +49,7 @@ pub overflow_sub-len-2 : goal.overflow_sub-len-2
 overflow_sub-len-2 c = omega (arith, (sized (goal.at.overflow_sub-len-2 c).After-slot_count-n).is)
 
 pub put_form-requires : goal.put_form-requires
-put_form-requires c κs =
+put_form-requires c =
     let a = c.args in
     let B : List ℕ = a.set.now in
     let m = sized (goal.at.put_form-requires c).After-slot_count-n in

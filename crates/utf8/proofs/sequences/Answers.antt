@@ -25,7 +25,8 @@ digit : (c : Else-class-eq48)
 digit c =
     let l = c in
     let a = l.args in
-    let d = is_digit a.classes.now a.rows l.requires (get_or a.s.now l.loop-i.i 0) (byte c) in
+    let n : get_or a.s.now l.loop-i.i 0 < 256 = omega (arith, c.shared_slice_known-in-loop-i-1.given c.loop-i.i) in
+    let d = is_digit a.classes.now a.rows l.requires (get_or a.s.now l.loop-i.i 0) n in
     (omega (arith, d.0), d.1)
 
 leads : (c : Else-class-eq48)
@@ -36,7 +37,8 @@ leads : (c : Else-class-eq48)
 leads c =
     let l = c in
     let a = l.args in
-    its_row a.classes.now a.rows l.requires (get_or a.s.now l.loop-i.i 0) (byte c) c.if-class-eq48.false
+    let n : get_or a.s.now l.loop-i.i 0 < 256 = omega (arith, c.shared_slice_known-in-loop-i-1.given c.loop-i.i) in
+    its_row a.classes.now a.rows l.requires (get_or a.s.now l.loop-i.i 0) n c.if-class-eq48.false
 
 -- behind a sequence that is there: further on, and the bytes from there on say what the whole says
 came : (c : After-behind-i) → (c.behind-i.result ≡ 0 → ⊥)
@@ -44,10 +46,12 @@ came : (c : After-behind-i) → (c.behind-i.result ≡ 0 → ⊥)
     let s = l.args.s.now in
     (l.loop-i.i < c.behind-i.result) × (utf8 (drop c.behind-i.result s) ≡ utf8 s))
 came c z =
-    let k = c in
-    let l = k.before in
-    let s = l.args.s.now in
-    let w = whole s l.loop-i.i _ _ k.loop-i-test.true (leads c) c.behind-i.ensures z in
+    let a = c.args in
+    let s = a.s.now in
+    let l = c in
+    let n : get_or s l.loop-i.i 0 < 256 = omega (arith, c.shared_slice_known-in-loop-i-1.given c.loop-i.i) in
+    let b = its_row a.classes.now a.rows c.requires (get_or s l.loop-i.i 0) n c.if-class-eq48.false in
+    let w = whole s l.loop-i.i _ _ c.loop-i-test.true b c.behind-i.ensures z in
     (w.0, w.1 ∙ l.loop-i.invariant)
 
 pub loop-i-init : goal.loop-i-init

@@ -7,4 +7,4 @@ use Rattle.utf8.proofs.valid.Goals as goal
 
 pub sequences-requires : goal.sequences-requires
 unfolding class_of lead_of table leads after_first
-sequences-requires c κs = rule_of _ _ tt
+sequences-requires c = rule_of _ _ tt
