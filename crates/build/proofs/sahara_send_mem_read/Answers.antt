@@ -22,7 +22,7 @@ pub returns-in-Bits32 : goal.returns-in-Bits32
 returns-in-Bits32 c =
     let a = c.args in
     let m = c in
-    built_so _ (tells build_told (m.mem_read32.ensures.is ∙ build_narrowed a.addr a.len a.out-1.now))
+    built_so _ (tells build_told (m.mem_read32.ensures.is ∙ build_narrowed a.addr a.len a.out.now))
     (ap (λ (v : Width). Q.MemRead v a.addr a.len) m.in-Bits32.is)
 
 pub shape_of-out-in-Bits64 : goal.shape_of-out-in-Bits64

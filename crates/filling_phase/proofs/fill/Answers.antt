@@ -14,5 +14,5 @@ returns c =
     let e : n ≡ min (a.x.declared - a.x.filled) (length a.delivery.now) = c.least-n.ensures in (
       e,
       c.copy_into.ensures
-          ∙ copied_fits a.buffer-1.now a.x.filled a.delivery.now n (omega arith) (omega arith),
+          ∙ copied_fits a.buffer.now a.x.filled a.delivery.now n (omega arith) (omega arith),
     )

@@ -63,5 +63,5 @@ returns c =
     let a = (begun (goal.at.returns c).After-check_images).args in
     tells outcome_told
     (p.phase_step.ensures.is
-    ∙ sym (step_phase a.s a.delivery.now a.set.now a.names.now a.table-1.now a.reply-1.now a.out-1.now
+    ∙ sym (step_phase a.s a.delivery.now a.set.now a.names.now a.table.now a.reply.now a.out.now
     (images-formed (goal.at.returns c).In-Good) (names-formed (goal.at.returns c).In-Good-check_names)))

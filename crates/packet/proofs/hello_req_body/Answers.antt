@@ -11,9 +11,9 @@ returns-in-Is c =
     let m = c in
     let r = m.before.before in
     ap as_req c.hello_words-h.ensures
-    ∙ read_as mode_of (hello_of r.args.p.now) r.word.ensures r.Mode-of.ensures m.in-Is.is
+    ∙ read_as mode_of (hello_of r.args.p.now) r.word.ensures r.mode_of.ensures m.in-Is.is
 
 pub returns-in-Bad : goal.returns-in-Bad
 returns-in-Bad c =
     let r = c in
-    read_as mode_of (hello_of r.args.p.now) r.word.ensures r.Mode-of.ensures c.in-Bad.is
+    read_as mode_of (hello_of r.args.p.now) r.word.ensures r.mode_of.ensures c.in-Bad.is

@@ -31,5 +31,5 @@ returns c =
     let b = g.before.before in
     let a = b.args in
     tells outcome_told
-    (guard_passed a.s (P.Packet a.held) a.table.now a.reply.now a.out-1.now _ g.guard-why.ensures b.held_limit.ensures
+    (guard_passed a.s (P.Packet a.held) a.table.now a.reply.now a.out.now _ g.guard-why.ensures b.held_limit.ensures
     q.if-why-ne0.false q.packet.ensures)

@@ -18,7 +18,7 @@ never e = let z : ◌≡◌ {A = ℕ} 0 1 = cc in omega arith
 
 -- an out buffer of 48 bytes has room
 built : (c : After-build) → (let a = c.args in
-    build_outcome c.build.result c.build.new.0 ≡ build_outcome (T.Send (size_of a.q)) (front a.q a.out.now))
+    build_outcome c.build.result c.build.new.out ≡ build_outcome (T.Send (size_of a.q)) (front a.q a.out.now))
 built c =
     let b = c in
     c.build.ensures.is ∙ build_long b.args.q b.args.out.now b.requires

@@ -31,5 +31,5 @@ returns c =
     let k : m.least-k.result ≡ min (length_field w) 48 = omega (arith, m.length_in.ensures) in
     let p : take m.least-k.result w ≡ take (length_field w) w = ap (λ (n : ℕ). take n w) k ∙ window_take w f (length_field w) in
     c.act.ensures t y
-    ∙ ap (acted a.s a.taken w t y a.out-1.now)
+    ∙ ap (acted a.s a.taken w t y a.out.now)
     (j.judge-v.ensures.is ∙ ap (verdict_of a.s.opening a.set.now (length t) (length y)) p)

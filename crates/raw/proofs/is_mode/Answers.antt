@@ -5,7 +5,7 @@ use borrow.Author.Rules.{rules}
 use Rattle.raw.proofs.is_mode.Goals as goal
 
 pub returns-in-Is : goal.returns-in-Is
-returns-in-Is c = sym (ap mode_named (sym c.Mode-of.ensures ∙ c.in-Is.is))
+returns-in-Is c = sym (ap mode_named (sym c.mode_of.ensures ∙ c.in-Is.is))
 
 pub returns-in-Bad : goal.returns-in-Bad
-returns-in-Bad c = sym (ap mode_named (sym c.Mode-of.ensures ∙ c.in-Bad.is))
+returns-in-Bad c = sym (ap mode_named (sym c.mode_of.ensures ∙ c.in-Bad.is))

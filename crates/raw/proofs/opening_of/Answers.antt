@@ -6,4 +6,4 @@ pub returns : goal.returns
 returns c =
     let e = c in
     let m = e.before.before in
-    rw (c.backend_of-b.ensures, e.exec_in-c.ensures, e.command_of.ensures, m.mode_in-m.ensures, m.Mode-of.ensures)
+    rw (c.backend_of-b.ensures, e.exec_in-c.ensures, e.command_of.ensures, m.mode_in-m.ensures, m.mode_of.ensures)

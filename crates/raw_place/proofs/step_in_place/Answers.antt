@@ -83,7 +83,7 @@ returns-in-To c =
     let a = (begun (goal.at.returns-in-To c).After-advance_region-a).args in
     let k : Counted = m.in-To.c in
     let r = in-region (goal.at.returns-in-To c).After-advance_region-a in (
-      ap (λ (z : RawTold). raw_outcome (stepped_at (raw_at a.head.now m.count-t.new.0 a.window.now) z) a.table.now a.reply.now (after (goal.at.returns-in-To c).After-advance_region-a))
+      ap (λ (z : RawTold). raw_outcome (stepped_at (raw_at a.head.now m.count-t.new.numbers a.window.now) z) a.table.now a.reply.now (after (goal.at.returns-in-To c).After-advance_region-a))
           (c.placed-in-To.ensures.0 ∙ m.count-t.ensures.0)
           ∙ ap (λ (z : List ℕ). raw_outcome (stepped_at (raw_at a.head.now z a.window.now) (told_of k.taken k.answer))
           a.table.now a.reply.now (after (goal.at.returns-in-To c).After-advance_region-a))

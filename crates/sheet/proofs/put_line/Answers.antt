@@ -20,27 +20,27 @@ small : (c : After-filename-2-1) → c.args.at + 57 < 18446744073709551616
 small c = omega arith
 
 -- the page's length behind each call
-named : (c : After-put_name) → length c.put_name.new.0 ≡ length c.args.page.now
+named : (c : After-put_name) → length c.put_name.new.page ≡ length c.args.page.now
 named c = ap length c.put_name.ensures ∙ simp length-sets
 
 based : (c : After-put_hex)
-    → length c.put_hex.new.0 ≡ length c.args.page.now
+    → length c.put_hex.new.page ≡ length c.args.page.now
 based c = ap length c.put_hex.ensures ∙ simp (length-sets, length-set) (named c)
 
 measured : (c : After-put_hex-2)
-    → length c.put_hex-2.new.0
+    → length c.put_hex-2.new.page
     ≡ length c.args.page.now
 measured c = ap length c.put_hex-2.ensures ∙ simp (length-sets, length-set) (based c)
 
 -- so that behind each there is room for the line
-room-named : (c : After-put_name) → c.args.at + 57 ≤ length c.put_name.new.0
+room-named : (c : After-put_name) → c.args.at + 57 ≤ length c.put_name.new.page
 room-named c = omega (arith, named c, c.requires)
 
-room-based : (c : After-put_hex) → c.args.at + 57 ≤ length c.put_hex.new.0
+room-based : (c : After-put_hex) → c.args.at + 57 ≤ length c.put_hex.new.page
 room-based c = omega (arith, based c, c.requires)
 
 room-measured : (c : After-put_hex-2)
-    → c.args.at + 57 ≤ length c.put_hex-2.new.0
+    → c.args.at + 57 ≤ length c.put_hex-2.new.page
 room-measured c = omega (arith, measured c, c.requires)
 
 pub put_name-requires : goal.put_name-requires
@@ -100,6 +100,6 @@ returns c =
     let l : length a.e.filename ≡ 20 = twenty (goal.at.returns c).After-filename-2-1 in
     let named-is = ap (λ (x : List ℕ). sets (set x (a.at + 20) 32) (a.at + 21) (hex 16 a.e.base)) n.put_name.ensures in
     let based-is = ap (λ (x : List ℕ). sets (set x (a.at + 37) 32) (a.at + 38) (hex 16 a.e.len)) (h.put_hex.ensures ∙ named-is) in
-    ap (λ (m : ℕ). set (set (set g.put_hex-2.new.0 (a.at + 54) 32) (a.at + 55) m) (a.at + 56) 10) c.mark_of.ensures
+    ap (λ (m : ℕ). set (set (set g.put_hex-2.new.page (a.at + 54) 32) (a.at + 55) m) (a.at + 56) 10) c.mark_of.ensures
     ∙ ap (λ (x : List ℕ). set (set (set x (a.at + 54) 32) (a.at + 55) (mark a.e.save_pref)) (a.at + 56) 10) (g.put_hex-2.ensures ∙ based-is)
-    ∙ line_stored a.e a.page-1.now a.at l
+    ∙ line_stored a.e a.page.now a.at l

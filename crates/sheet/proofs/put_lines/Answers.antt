@@ -34,9 +34,9 @@ loop-i-preserved c =
     let a = e.args in
     let f : ℕ = field_size a.width in
     let t : List ℕ = a.table.now in
-    let p : List ℕ = a.page-1.now in
+    let p : List ℕ = a.page.now in
     let q : e.entry_at-found.result.entry ≡ entry_in f t l.i = ap (λ (x : EntryAt). x.entry) e.entry_at-found.ensures ∙ entry_found f t l.i (omega arith) in
-    let x : w.put_line.new.0 ≡ sets p 0 (lines_of f t (suc l.i)) =
+    let x : w.put_line.new.page ≡ sets p 0 (lines_of f t (suc l.i)) =
     w.put_line.ensures
     ∙ ap (λ (y : RamdumpTable64). sets l.page-1 (57 * l.i) (line_of y)) q
     ∙ ap (λ (d : List ℕ). sets d (57 * l.i) (line_of (entry_in f t l.i))) l.invariant.2

@@ -24,8 +24,8 @@ returns c =
     let a = e.args in
     let f : ℕ = field_size a.width in
     let t : List ℕ = a.table.now in
-    let p : List ℕ = a.page-1.now in
+    let p : List ℕ = a.page.now in
     let n : e.entries_in-n.result ≡ entries_in f (length t) = e.entries_in-n.ensures in
     let h : sheet_size f t ≤ length p = omega arith in
-    let q : w.put_lines.new.0 ≡ sets p 0 (sheet_bytes f t) = w.put_lines.ensures ∙ ap (λ (k : ℕ). sets p 0 (lines_of f t k)) n in
-    rw n (writes f t p w.put_lines.new.0 h q)
+    let q : w.put_lines.new.page ≡ sets p 0 (sheet_bytes f t) = w.put_lines.ensures ∙ ap (λ (k : ℕ). sets p 0 (lines_of f t k)) n in
+    rw n (writes f t p w.put_lines.new.page h q)

@@ -47,12 +47,12 @@ returns-in-At c =
     let n : g.0 + g.1.0 - g.0 ≡ g.1.0 = add-sub g.0 g.1.0 in
     let k : length (take g.1.0 (drop g.0 B)) ≡ g.1.0 =
     sym (ap (λ (x : Slot). length (bytes_in (content_at B x))) e) ∙ size_there B a.i g.0 g.1.0 e in
-    let f : a.at + g.1.0 ≤ length a.to-1.now =
+    let f : a.at + g.1.0 ≤ length a.to.now =
     omega (arith, size_there B a.i g.0 g.1.0 e, c.requires) in
     c.copy_into.ensures
-    ∙ ap (λ (m : ℕ). copied a.to-1.now a.at (take m (drop g.0 B)) g.1.0) n
-    ∙ copied_stored a.to-1.now a.at (take g.1.0 (drop g.0 B)) g.1.0 f k
-    ∙ ap (λ (x : Slot). sets a.to-1.now a.at (bytes_in (content_at B x))) (sym e)
+    ∙ ap (λ (m : ℕ). copied a.to.now a.at (take m (drop g.0 B)) g.1.0) n
+    ∙ copied_stored a.to.now a.at (take g.1.0 (drop g.0 B)) g.1.0 f k
+    ∙ ap (λ (x : Slot). sets a.to.now a.at (bytes_in (content_at B x))) (sym e)
 
 pub returns-in-Absent : goal.returns-in-Absent
 returns-in-Absent c =

@@ -23,30 +23,30 @@ room c =
     omega (arith, c.requires, length_bundle (first_contents a.set.now a.n), length_first a.set.now a.n)
 
 -- the buffer behind each store, and that its length stays
-count : (c : After-put_u32) → let a = c.args in c.put_u32.new.0 ≡ sets a.to.now 0 (le_bytes 4 a.n)
+count : (c : After-put_u32) → let a = c.args in c.put_u32.new.d ≡ sets a.to.now 0 (le_bytes 4 a.n)
 count c = ap (λ (x : Written). x.bytes) (c.put_u32.ensures ∙ put_done _ _ _ _ (omega (arith, room c)))
 
-length-counted : (c : After-put_u32) → length c.put_u32.new.0 ≡ length c.args.to.now
+length-counted : (c : After-put_u32) → length c.put_u32.new.d ≡ length c.args.to.now
 length-counted c = ap length (count c) ∙ rw length-sets refl
 
 sized : (c : After-put_u32-2)
     → let b = c in
-    c.put_u32-2.new.0 ≡ sets b.put_u32.new.0 4 (le_bytes 4 b.args.size)
+    c.put_u32-2.new.d ≡ sets b.put_u32.new.d 4 (le_bytes 4 b.args.size)
 sized c =
     let b = c in
     ap (λ (x : Written). x.bytes) (c.put_u32-2.ensures ∙ put_done _ _ _ _ (omega (arith, room c, length-counted c)))
 
 length-sized : (c : After-put_u32-2)
-    → length c.put_u32-2.new.0 ≡ length c.args.to.now
+    → length c.put_u32-2.new.d ≡ length c.args.to.now
 length-sized c = ap length (sized c) ∙ rw length-sets (length-counted c)
 
 length-started : (c : After-put_starts)
-    → length c.put_starts.new.0
+    → length c.put_starts.new.to
     ≡ length c.args.to.now
 length-started c = ap length c.put_starts.ensures ∙ rw length-sets (length-sized c)
 
 length-measured : (c : After-put_lengths)
-    → length c.put_lengths.new.0
+    → length c.put_lengths.new.to
     ≡ length
     c.args.to.now
 length-measured c = ap length c.put_lengths.ensures ∙ rw length-sets (length-started c)
@@ -77,4 +77,4 @@ returns c =
     let e : a.size ≡ length (data_of (first_contents a.set.now a.n)) = omega arith in
     rw
     (d.put_data.ensures, l.put_lengths.ensures, s.put_starts.ensures, sized (goal.at.returns c).After-put_u32-2, count (goal.at.returns c).After-put_u32, e)
-    (form_stored a.set.now a.to-1.now a.n)
+    (form_stored a.set.now a.to.now a.n)

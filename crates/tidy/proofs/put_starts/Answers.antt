@@ -38,19 +38,19 @@ loop-i-preserved c =
     let l = s.loop-i in
     let a = s.args in
     let B : List ℕ = a.set.now in
-    let x : w.put_u32.new.0 ≡ sets l.to-1 (8 + 4 * l.i) (le_bytes 4 s.start_at.result) =
+    let x : w.put_u32.new.d ≡ sets l.to-1 (8 + 4 * l.i) (le_bytes 4 s.start_at.result) =
     ap (λ (y : Written). y.bytes) (w.put_u32.ensures ∙ put_done _ _ _ _ (omega arith)) in
     let v : s.start_at.result ≡ start_for (length (data_of (first_contents B l.i))) (content_of B l.i) =
     s.start_at.ensures ∙ ap (λ (k : ℕ). start_for k (content_of B l.i)) l.invariant.2 in
     let e : l.sum + c.size_at-sum.result ≡ length (data_of (first_contents B (suc l.i))) =
     omega (arith, c.size_at-sum.ensures, l.invariant.2, data_grows B l.i) in
-    let y : w.put_u32.new.0 ≡ sets a.to-1.now 8 (words (starts_from 0 (first_contents B (suc l.i)))) =
+    let y : w.put_u32.new.d ≡ sets a.to.now 8 (words (starts_from 0 (first_contents B (suc l.i)))) =
     x
     ∙ ap (λ (k : ℕ). sets l.to-1 (8 + 4 * l.i) (le_bytes 4 k)) v
     ∙ ap
     (λ (d : List ℕ). sets d (8 + 4 * l.i) (le_bytes 4 (start_for (length (data_of (first_contents B l.i))) (content_of B l.i))))
     l.invariant.3
-    ∙ sym (starts_stored B a.to-1.now l.i) in
+    ∙ sym (starts_stored B a.to.now l.i) in
     (omega arith, ap length x ∙ rw length-sets l.invariant.1, rw add-one e, rw add-one y)
 
 pub returns : goal.returns

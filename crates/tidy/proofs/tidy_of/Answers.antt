@@ -65,6 +65,6 @@ returns c =
     let s = w.before.before in
     let a = s.args in
     let B : List ℕ = a.set.now in
-    let x : w.put_form.new.0 ≡ sets a.to-1.now 0 (tidy_bytes B) =
-    w.put_form.ensures ∙ ap (λ (k : ℕ). sets a.to-1.now 0 (bundle_bytes (first_contents B k))) s.slot_count-n.ensures in
-    tidy_stored B a.to-1.now a.len w.put_form.new.0 s.requires (omega arith) x
+    let x : w.put_form.new.to ≡ sets a.to.now 0 (tidy_bytes B) =
+    w.put_form.ensures ∙ ap (λ (k : ℕ). sets a.to.now 0 (bundle_bytes (first_contents B k))) s.slot_count-n.ensures in
+    tidy_stored B a.to.now a.len w.put_form.new.to s.requires (omega arith) x
