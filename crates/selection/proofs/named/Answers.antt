@@ -21,54 +21,13 @@ use Rattle.bundle.specs.declared.Slot.TheVariants as S
 use Rattle.selection.specs.Selection.{low, same}
 use Rattle.selection.proofs.Laws.{named_from, named_done, named_at, named_without, same_step, same_done, named_unequal, named_all}
 use borrow.Author.Rules.{rules}
+use Rattle.selection.proofs.Inside.{Inside, inside_all, inside_differs, inside_next}
 use Rattle.selection.proofs.named.Goals as goal
 
--- inside the name of slot i, j of whose bytes are the stem's: the whole search is the rest of this name, then the names behind it
-record Inside (names : List ℕ) (n : ℕ) (stem : List ℕ) (start size i j : ℕ) : Type 0 where
-  below : i < n
-  within : start + size ≤ length names
-  long : size ≡ length stem
-  passed : j ≤ size
-  whole :
-      named_from names n stem 0
-      ≡ pick (same (map low (drop j stem)) (map low (drop j (take size (drop start names))))) true (named_from names n stem (i + 1))
-
-module _ {names : List ℕ} {n : ℕ} {stem : List ℕ} {start size i j : ℕ} (t : Inside names n stem start size i j) where
-  abbrev name : List ℕ
-  name = take size (drop start names)
-
-  length-name : length name ≡ size
-  length-name = simp (length-take, length-drop) (omega arith)
-
-  byte_of : j < size → get_or name j 0 ≡ get_or names (start + j) 0
-  byte_of h = rw (get_or-take, get_or-drop) refl
-
-  -- all bytes are the stem's: found
-  inside-all : size ≤ j → named_from names n stem 0 ≡ true
-  inside-all h = t.whole ∙ simp (same_done stem name j (omega arith) (omega (arith, length-name)))
-
-  -- a byte differs: on with the names behind
-  inside-differs : j < size → (low (get_or names (start + j) 0) ≡ low (get_or stem j 0) → ⊥) → named_from names n stem 0 ≡ named_from names n stem (i + 1)
-  inside-differs h d =
-      let e : eqb (low (get_or stem j 0)) (low (get_or name j 0)) ≡ false = ne_eqb _ _ (λ q. d (sym (q ∙ ap low (byte_of h)))) in
-      t.whole ∙ simp (same_step stem name j (omega arith) (omega (arith, length-name)), e)
-
-  -- a byte is the stem's: on with the next
-  inside-next : j < size → low (get_or names (start + j) 0) ≡ low (get_or stem j 0) → Inside names n stem start size i (j + 1)
-  inside-next h q =
-      let e : eqb (low (get_or stem j 0)) (low (get_or name j 0)) ≡ true = eq-eqb _ _ (sym (ap low (byte_of h) ∙ q)) in
-      record {
-        below = t.below;
-        within = t.within;
-        long = t.long;
-        passed = omega arith;
-        whole = t.whole ∙ simp (same_step stem name j (omega arith) (omega (arith, length-name)), e);
-      }
-
 -- a slot that is not `At` has no name
-nameless : (b : List ℕ) (n : ℕ) (stem : List ℕ) (i : ℕ) (x : Slot) → i < n → OneOf (1 ∷ 2 ∷ []) (tag_of the_type x) → slot_of b i ≡ x
+nameless : (b : List ℕ) (n : ℕ) (stem : List ℕ) (i : ℕ) (x : Slot) → i < n → ((k l : ℕ) → x ≡ S.At k l → ⊥) → slot_of b i ≡ x
     → named_from b n stem i ≡ named_from b n stem (i + 1)
-nameless b n stem i (S.At start size) h k e = absurd (⊎_elim (λ q. omega arith) (λ q. omega arith) k)
+nameless b n stem i (S.At start size) h k e = absurd (k start size refl)
 nameless b n stem i S.Absent h k e = named_without b n stem i h (λ r. rw e refl)
 nameless b n stem i S.Missing h k e = named_without b n stem i h (λ r. rw e refl)
 
@@ -87,7 +46,7 @@ names-preserved-in_default c =
     let o = c.names in
     let r = c.slot_at-s in
     let below = c.names-test.true in
-    let e = nameless a.names.now a.n a.stem.now o.i r.result below c.in_default.in_default-own.keys2 (sym r.ensures.is) in
+    let e = nameless a.names.now a.n a.stem.now o.i r.result below c.in_default.not-At (sym r.ensures.is) in
     (omega (arith, below), o.invariant.1, o.invariant.2 ∙ e)
 
 pub overflow_add-i-then-size-stem : goal.overflow_add-i-then-size-stem
@@ -145,7 +104,7 @@ bytes-preserved c =
     let l = c.bytes in
     let t = l.invariant.1 in (
       l.invariant.0,
-      inside-next t (omega (arith, c.if-stem-j.false, t.long))
+      inside_next t (omega (arith, c.if-stem-j.false, t.long))
           (sym c.lower.ensures ∙ c.if-lower.false ∙ c.lower-in-bytes.ensures),
     )
 
@@ -163,7 +122,7 @@ names-preserved c =
     let t = l.invariant.1 in (
       omega (arith, t.below),
       l.invariant.0,
-      inside-differs t (omega (arith, c.if-stem-j.false, t.long))
+      inside_differs t (omega (arith, c.if-stem-j.false, t.long))
           (λ q. c.if-lower.true (c.lower.ensures ∙ q ∙ sym c.lower-in-bytes.ensures)),
     )
 
@@ -178,4 +137,4 @@ returns-after-names c =
 pub returns-then-stem-j : goal.returns-then-stem-j
 returns-then-stem-j c =
     let a = c.args in
-    sym (named_all a.names.now a.n a.stem.now ∙ inside-all c.bytes.invariant.1 (omega (arith, c.bytes.invariant.1, c.if-stem-j.true)))
+    sym (named_all a.names.now a.n a.stem.now ∙ inside_all c.bytes.invariant.1 (omega (arith, c.bytes.invariant.1, c.if-stem-j.true)))

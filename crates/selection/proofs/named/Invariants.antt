@@ -21,6 +21,7 @@ use Rattle.bundle.specs.declared.Slot.TheVariants as S
 use Rattle.selection.specs.Selection.{low, same}
 use Rattle.selection.proofs.Laws.{named_from, named_done, named_at, named_without, same_step, same_done, named_unequal, named_all}
 use borrow.Author.Rules.{rules}
+use Rattle.selection.proofs.Inside.{Inside}
 use Rattle.selection.proofs.named.Given as goal
 
 abbrev pub invariant-bytes : goal.invariant-bytes
