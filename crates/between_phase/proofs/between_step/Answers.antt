@@ -19,7 +19,7 @@ pub returns-then-why-ne0 : goal.returns-then-why-ne0
 unfolding between_step
 returns-then-why-ne0 c =
     let g = c in
-    let b = g.before in
+    let b = c in
     let a = b.args in
     tells outcome_told
     (guard_refused a.s (P.Between a.k a.i) a.table.now a.reply.now a.out.now _ g.guard-why.ensures b.between_limit.ensures
@@ -28,7 +28,7 @@ returns-then-why-ne0 c =
 pub next_region-requires : goal.next_region-requires
 next_region-requires c =
     let g = c in
-    let b = g.before in
+    let b = c in
     let a = b.args in
     let w = passed a.s _ a.out.now g.guard-why.ensures c.if-why-ne0.false in
     let n = length a.table.now in
@@ -38,7 +38,7 @@ pub returns : goal.returns
 unfolding between_step
 returns c =
     let g = c in
-    let b = g.before in
+    let b = c in
     let a = b.args in
     tells outcome_told
     (guard_passed a.s (P.Between a.k a.i) a.table.now a.reply.now a.out.now _ g.guard-why.ensures b.between_limit.ensures

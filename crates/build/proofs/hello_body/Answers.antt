@@ -9,12 +9,12 @@ pub returns : goal.returns
 unfolding fields le_bytes
 returns c =
     let l3 = c in
-    let l2 = l3.before.before.before.before in
-    let l1 = l2.before.before.before.before in
-    let w4 = l1.before.before.before.before in
-    let w3 = w4.before.before.before.before in
-    let w2 = w3.before.before.before.before in
-    let w1 = w2.before.before.before.before in
+    let l2 = c in
+    let l1 = c in
+    let w4 = c in
+    let w3 = c in
+    let w2 = c in
+    let w1 = c in
     rw (
       l3.long-3.ensures,
       l2.long-2.ensures,

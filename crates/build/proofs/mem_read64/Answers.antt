@@ -16,7 +16,7 @@ pub returns : goal.returns
 unfolding bytes_of fields le_bytes
 returns c =
     let l2 = c in
-    let l1 = l2.before.before.before.before in
-    let g = l1.before.before.before.before in
+    let l1 = c in
+    let g = c in
     builds (Q.MemRead WI.Bits64 _ _) _ _ (omega arith)
     (rw (l2.long-2.ensures, l1.long.ensures, g.sahara_send_generic.ensures, g.kind_number.ensures) refl)

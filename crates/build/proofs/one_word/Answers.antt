@@ -8,5 +8,5 @@ pub returns : goal.returns
 unfolding fields le_bytes
 returns c =
     let w = c in
-    let g = w.before.before.before.before in
+    let g = c in
     rw (w.word.ensures, g.sahara_send_generic.ensures) refl

@@ -8,5 +8,5 @@ pub returns : goal.returns
 unfolding fields le_bytes
 returns c =
     let w2 = c in
-    let w1 = w2.before.before.before.before in
+    let w1 = c in
     rw (w2.word-2.ensures, w1.word.ensures) refl

@@ -15,6 +15,6 @@ pub returns : goal.returns
 unfolding bytes_of fields le_bytes
 returns c =
     let b = c in
-    let g = b.before.before.before.before.before in
+    let g = c in
     builds (Q.HelloResp _) _ _ (omega arith)
     (rw (b.hello_body.ensures, b.mode_number.ensures, g.sahara_send_generic.ensures, g.kind_number.ensures) refl)

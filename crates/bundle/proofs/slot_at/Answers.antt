@@ -34,7 +34,7 @@ length_of-size-requires c = (c.number-n.ensures.0, c.if-b-data.false, c.if-n-i.f
 pub returns-then-is_absent : goal.returns-then-is_absent
 returns-then-is_absent c =
     let k = c in
-    let n = k.before.before.before.before in
+    let n = c in
     tells slot_told
     (gap_told _ _ n.if-b-lt8.false n.number-n.ensures.0 k.if-b-data.false k.if-n-i.false
     k.start_of-start.ensures.0 k.length_of-size.ensures.0 c.is_absent.ensures c.if-is_absent.true)
@@ -52,7 +52,7 @@ overflow_add-from-2 c =
 pub returns-then-b-from : goal.returns-then-b-from
 returns-then-b-from c =
     let k = c in
-    let n = k.before.before.before.before in
+    let n = c in
     tells slot_told
     (past_the_bytes _ _ n.if-b-lt8.false n.number-n.ensures.0 k.if-b-data.false k.if-n-i.false
     k.start_of-start.ensures.0 k.length_of-size.ensures.0 c.is_absent.ensures c.if-is_absent.false c.if-b-from.true)
@@ -60,7 +60,7 @@ returns-then-b-from c =
 pub returns : goal.returns
 returns c =
     let k = c in
-    let n = k.before.before.before.before in
+    let n = c in
     tells slot_told
     (slot_told_lem _ _ n.if-b-lt8.false n.number-n.ensures.0 k.if-b-data.false k.if-n-i.false
     k.start_of-start.ensures.0 k.length_of-size.ensures.0 c.is_absent.ensures c.if-is_absent.false c.if-b-from.false)

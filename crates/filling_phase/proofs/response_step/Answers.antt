@@ -50,7 +50,7 @@ pub returns-then-received-declared : goal.returns-then-received-declared
 unfolding response_of
 returns-then-received-declared c =
     let i = c in
-    let f = i.before.before.before.before in
+    let f = c in
     let e = f.fill-n.ensures in
     tells outcome_told (behind (goal.at.returns-then-received-declared c).After-fill-n (simp (lt-ltb _ _ (rw e.0 at i.if-received-declared.true), e.1, e.0, c.moved.ensures)))
 
@@ -58,9 +58,9 @@ pub returns : goal.returns
 unfolding response_of
 returns c =
     let w = c in
-    let i = w.before.before in
-    let f = i.before.before.before.before in
-    let g = f.before.before.before in
+    let i = c in
+    let f = c in
+    let g = c in
     let a = (begun (goal.at.returns c).After-guard-why).args in
     let e = f.fill-n.ensures in
     let h = (passed a.s _ a.out-1.now g.guard-why.ensures f.if-why-ne0.false).room in

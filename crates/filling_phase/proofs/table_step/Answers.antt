@@ -47,7 +47,7 @@ pub returns-then-filled-declared : goal.returns-then-filled-declared
 unfolding table_of
 returns-then-filled-declared c =
     let i = c in
-    let f = i.before.before.before.before in
+    let f = c in
     let e = f.fill-n.ensures in
     tells outcome_told (behind (goal.at.returns-then-filled-declared c).After-fill-n (simp (lt-ltb _ _ (rw e.0 at i.if-filled-declared.true), e.1, e.0, c.moved.ensures)))
 
@@ -55,6 +55,6 @@ pub returns : goal.returns
 unfolding table_of
 returns c =
     let i = c in
-    let f = i.before.before.before.before in
+    let f = c in
     let e = f.fill-n.ensures in
     tells outcome_told (behind (goal.at.returns c).After-fill-n (simp (le-ltb _ _ (rw e.0 at i.if-filled-declared.false), e.1, e.0, c.moved-2.ensures)))

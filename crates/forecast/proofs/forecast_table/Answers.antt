@@ -41,9 +41,9 @@ loop-i-smaller c =
 pub loop-i-preserved : goal.loop-i-preserved
 loop-i-preserved c =
     let m = c in
-    let e = m.before.before in
+    let e = c in
     let l = e.loop-i in
-    let w = e.before.before.before.before in
+    let w = c in
     let a = w.args in
     let f : ℕ = field_size a.width in
     let t : List ℕ = a.table.now in

@@ -20,7 +20,7 @@ lent c =
 pub returns-then-out-lt48 : goal.returns-then-out-lt48
 returns-then-out-lt48 c =
     let i = c in
-    let g = i.before.before.before.before.before.before.before.before.before in
+    let g = c in
     let a = g.args in
     tells outcome_told
     (ap (λ (r : Stepped). outcome r a.table.now a.reply.now a.out.now) c.untouched.ensures
@@ -71,7 +71,7 @@ returns-in-Region c =
 pub returns-else-out-lt48 : goal.returns-else-out-lt48
 returns-else-out-lt48 c =
     let i = c in
-    let g = i.before.before.before.before.before.before.before.before.before in
+    let g = c in
     let a = g.args in
     tells outcome_told
     (ap (λ (r : Stepped). outcome r a.table.now a.reply.now a.out.now) c.untouched-in-Ended.ensures

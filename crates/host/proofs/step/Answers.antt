@@ -58,8 +58,8 @@ returns-in_default-check_names c =
 pub returns : goal.returns
 returns c =
     let p = c in
-    let n = p.before.before.before.before in
-    let i = n.before.before.before in
+    let n = c in
+    let i = c in
     let a = (begun (goal.at.returns c).After-check_images).args in
     tells outcome_told
     (p.phase_step.ensures.is

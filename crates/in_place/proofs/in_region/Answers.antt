@@ -7,7 +7,7 @@ use Rattle.in_place.proofs.in_region.Goals as goal
 pub returns-then-is_width : goal.returns-then-is_width
 returns-then-is_width c =
     let w = c in
-    let i = w.before.before.before in
+    let i = c in
     simp (eq-eqb _ _ i.if-head-eq-REGION.true, lt-ltb _ _ i.if-numbers-lt2.true, sym w.is_width.ensures ∙ w.if-is_width.true) c.is_opening.ensures
 
 pub returns-else-is_width : goal.returns-else-is_width

@@ -8,7 +8,7 @@ use Rattle.packet.proofs.exec_resp_body.Goals as goal
 pub returns-in-Is : goal.returns-in-Is
 returns-in-Is c =
     let m = c in
-    let r = m.before.before in
+    let r = c in
     rw c.word-in-Is.ensures
     (read_as command_of (exec_resp_of r.args.p.now) r.word.ensures r.command_of.ensures m.in-Is.is)
 

@@ -9,7 +9,7 @@ use Rattle.packet.proofs.hello_req_body.Goals as goal
 pub returns-in-Is : goal.returns-in-Is
 returns-in-Is c =
     let m = c in
-    let r = m.before.before in
+    let r = c in
     ap as_req c.hello_words-h.ensures
     ∙ read_as mode_of (hello_of r.args.p.now) r.word.ensures r.mode_of.ensures m.in-Is.is
 

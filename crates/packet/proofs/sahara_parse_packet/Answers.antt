@@ -15,7 +15,7 @@ returns-then-p-lt8 c = tells decoded_told (decode_short _ (omega arith))
 pub returns-in-Kind : goal.returns-in-Kind
 returns-in-Kind c =
     let m = c in
-    let r = m.before.before in
+    let r = c in
     let p = r.args.p.now in
     tells decoded_told
     (decode_whole p r.if-p-lt8.false

@@ -25,7 +25,7 @@ pub returns-in_default : goal.returns-in_default
 unfolding sized_of
 returns-in_default c =
     let k = c in
-    let r = k.before.before in
+    let r = c in
     let a = r.args in
     let b = refused_length (bad_length a.size) _ (sym r.sahara_read_packet_length.ensures.is ∙ k.in_default.is) in
     simp (b, c.moved.ensures, c.rest.ensures)
@@ -40,7 +40,7 @@ pub returns-then-n-left : goal.returns-then-n-left
 unfolding sized_of
 returns-then-n-left c =
     let k = c in
-    let m = k.before.before.before in
+    let m = c in
     let a = m.args in
     let d : List ℕ = a.delivery.now in
     let n : m.least-n.result ≡ min (a.size - a.held) (length d) = omega (arith, m.least-n.ensures, m.rest-left.ensures) in
@@ -51,8 +51,8 @@ pub returns : goal.returns
 unfolding sized_of
 returns c =
     let i = c in
-    let k = i.before in
-    let m = k.before.before.before in
+    let k = c in
+    let m = c in
     let a = m.args in
     let d : List ℕ = a.delivery.now in
     let n : m.least-n.result ≡ min (a.size - a.held) (length d) = omega (arith, m.least-n.ensures, m.rest-left.ensures) in

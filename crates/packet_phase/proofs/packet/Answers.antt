@@ -21,7 +21,7 @@ pub returns : goal.returns
 unfolding packet_of
 returns c =
     let i = c in
-    let k = i.before.before in
+    let k = c in
     let a = k.args in
     let d : List ℕ = a.delivery.now in
     let l : 8 ≤ a.held + length d = omega (arith, i.if-n-rest.false, i.rest.ensures) in

@@ -11,7 +11,7 @@ pub returns-then-why-ne0 : goal.returns-then-why-ne0
 unfolding packet_step
 returns-then-why-ne0 c =
     let g = c in
-    let b = g.before.before in
+    let b = c in
     let a = b.args in
     tells outcome_told
     (guard_refused a.s (P.Packet a.held) a.table.now a.reply.now a.out.now _ g.guard-why.ensures b.held_limit.ensures
@@ -27,8 +27,8 @@ pub returns : goal.returns
 unfolding packet_step
 returns c =
     let q = c in
-    let g = q.before.before.before in
-    let b = g.before.before in
+    let g = c in
+    let b = c in
     let a = b.args in
     tells outcome_told
     (guard_passed a.s (P.Packet a.held) a.table.now a.reply.now a.out.now _ g.guard-why.ensures b.held_limit.ensures

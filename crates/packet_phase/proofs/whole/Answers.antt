@@ -22,7 +22,7 @@ pub returns : goal.returns
 unfolding whole_of
 returns c =
     let j = c in
-    let m = j.before.before in
+    let m = c in
     let a = m.args in
     let w : List ℕ = a.w in
     let t : List ℕ = a.table.now in

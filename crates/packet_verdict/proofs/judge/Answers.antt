@@ -8,7 +8,7 @@ pub returns-in-Is : goal.returns-in-Is
 unfolding verdict_of
 returns-in-Is c =
     let q = c in
-    let d = q.before.before in
+    let d = c in
     let a = d.args in
     tells verdict_told
     (c.on_body.ensures ∙ ap (on_decoded a.opening a.set.now a.tsize a.rsize) (sym q.in-Is.is ∙ d.sahara_parse_packet.ensures.is))
@@ -17,6 +17,6 @@ pub returns-in-Refused : goal.returns-in-Refused
 unfolding verdict_of
 returns-in-Refused c =
     let q = c in
-    let d = q.before.before in
+    let d = c in
     let a = d.args in
     tells verdict_told (ap (on_decoded a.opening a.set.now a.tsize a.rsize) (sym q.in-Refused.is ∙ d.sahara_parse_packet.ensures.is))

@@ -17,7 +17,7 @@ returns-then-not-is_width c =
 pub returns : goal.returns
 returns c =
     let w = c in
-    let o = w.before.before in
+    let o = c in
     c.is_phase.ensures
     ∙ by_phase o.args.r (sym o.is_opening.ensures ∙ not-false _ o.if-not-is_opening.false-raw)
     (sym w.is_width.ensures ∙ not-false _ w.if-not-is_width.false-raw)

@@ -8,7 +8,7 @@ pub returns : goal.returns
 unfolding raw_of
 returns c =
     let b = c in
-    let m = b.before.before in
+    let m = c in
     rw (
       m.mode_number.ensures,
       b.exec_number.ensures,

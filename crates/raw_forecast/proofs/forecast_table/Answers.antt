@@ -25,15 +25,15 @@ a-width t n names e = rw e refl
 pub returns-then-not-is_width : goal.returns-then-not-is_width
 returns-then-not-is_width c =
     let g = c in
-    let w = g.before.before in
+    let w = c in
     c.raw_forecast.ensures
     ∙ ap raw_forecast (g.forecast_table.ensures.is ∙ no-width _ _ _ (sym w.is_width.ensures ∙ not-true _ w.if-not-is_width.true-raw))
 
 pub returns : goal.returns
 returns c =
     let g = c in
-    let v = g.before in
-    let w = v.before in
+    let v = c in
+    let w = c in
     let a = w.args in
     let t : List ℕ = a.table.now in
     let names : List ℕ = a.names.now in

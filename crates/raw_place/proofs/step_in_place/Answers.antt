@@ -38,7 +38,7 @@ after g = g.advance_region-a.last.1.1.1.1.1.1.1.0
 in-region : (g : After-advance_region-a) → (let a = (begun c).args in in_region a.head.now a.numbers.now ≡ true)
     × ((well_formed true (begun c).args.set.now ≡ true) × (well_formed false (begun c).args.names.now ≡ true))
 in-region g =
-    let e = g.before.before.before.before.before.before.before.before.before.before.before.before.before in
+    let e = c in
     let a = (begun c).args in
     let p = by_then (in_region a.head.now a.numbers.now) _ _ no (sym e.ready.ensures ∙ not-false _ e.if-not-ready.false-raw) in
     (p.0, by_then (well_formed true a.set.now) _ _ no p.1)
@@ -53,9 +53,9 @@ come-to g v e =
     let a = (begun c).args in
     let n = a.numbers.now in
     let h = a.head.now in
-    let v = g.before.before.before.before.before in
-    let u = v.before.before in
-    let x = u.before.before.before.before in
+    let v = c in
+    let u = c in
+    let x = c in
     let m = length a.delivery.now in
     ap (λ (z : Advance). advanced z (after c)) (sym e)
     ∙ g.advance_region-a.ensures
@@ -79,7 +79,7 @@ returns-then-not-ready c =
 pub returns-in-To : goal.returns-in-To
 returns-in-To c =
     let m = c in
-    let g = m.before.before.before.before.before.before.before in
+    let g = c in
     let a = (begun (goal.at.returns-in-To c).After-advance_region-a).args in
     let k : Counted = m.in-To.c in
     let r = in-region (goal.at.returns-in-To c).After-advance_region-a in (
@@ -97,7 +97,7 @@ returns-in-To c =
 pub returns-in-Waits : goal.returns-in-Waits
 returns-in-Waits c =
     let m = c in
-    let g = m.before.before.before.before.before.before in
+    let g = c in
     let a = (begun (goal.at.returns-in-Waits c).After-advance_region-a).args in
     let r = in-region (goal.at.returns-in-Waits c).After-advance_region-a in (
       ap (λ (z : RawTold). raw_outcome (stepped_at (raw_at a.head.now a.numbers.now a.window.now) z) a.table.now a.reply.now (after (goal.at.returns-in-Waits c).After-advance_region-a))
@@ -111,8 +111,8 @@ returns-in-Waits c =
 pub returns : goal.returns
 returns c =
     let s = c in
-    let e = s.before.before.before.before.before.before.before.before.before.before in
-    let g = e.before.before.before in
+    let e = c in
+    let g = c in
     let a = (begun (goal.at.returns c).After-advance_region-a).args in
     let n = a.numbers.now in
     let h = a.head.now in

@@ -13,7 +13,7 @@ begun i = i.before.before.before
 pub returns-then-in_region : goal.returns-then-in_region
 returns-then-in_region c =
     let g = c in
-    let i = g.before in
+    let i = c in
     let a = (begun (goal.at.returns-then-in_region c).After-in_region).args in
     c.waits_at.ensures ∙ wanted_at a.head.now a.numbers.now a.window.now (sym i.in_region.ensures ∙ g.if-in_region.true)
 

@@ -76,7 +76,7 @@ returns-in_default-check_names c =
 pub returns-then-not-is_session : goal.returns-then-not-is_session
 returns-then-not-is_session c =
     let n = c in
-    let g = n.before.before.before in
+    let g = c in
     let i = read-2 (goal.at.returns-then-not-is_session c).In-Good-check_names in
     let a = (begun (goal.at.returns-then-not-is_session c).After-raw_at-s).args in
     ap (λ (z : RawTold). raw_outcome (stepped_at (at (goal.at.returns-then-not-is_session c).After-raw_at-s) z) a.table.now a.reply.now a.out.now)
@@ -88,8 +88,8 @@ returns-then-not-is_session c =
 pub returns : goal.returns
 returns c =
     let p = c in
-    let e = p.before.before in
-    let g = e.before in
+    let e = c in
+    let g = c in
     let i = read-2 (goal.at.returns c).In-Good-check_names in
     let a = (begun (goal.at.returns c).After-raw_at-s).args in
     let r = i.raw_at-s.ensures in

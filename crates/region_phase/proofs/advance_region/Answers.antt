@@ -26,7 +26,7 @@ returns-then-region_limit c =
 pub advance_within-requires : goal.advance_within-requires
 advance_within-requires c =
     let l = c in
-    let r = l.before.before in
+    let r = c in
     let a = r.args in
     let w = region_within (field_size a.width) a.k a.x a.table.now (sym l.region_limit.ensures ∙ l.if-region_limit.false) in (
       r.if-out-lt48.false,
@@ -39,8 +39,8 @@ pub returns : goal.returns
 unfolding advance_of
 returns c =
     let w = c in
-    let l = w.before.before in
-    let r = l.before.before in
+    let l = c in
+    let r = c in
     let reads = sym r.reads_limit.ensures ∙ r.if-reads_limit.false in
     simp (le-ltb _ _ r.if-out-lt48.false, reads, sym l.region_limit.ensures ∙ l.if-region_limit.false)
     w.advance_within.ensures

@@ -28,9 +28,9 @@ pub returns-then-x-eq0 : goal.returns-then-x-eq0
 unfolding advance_within
 returns-then-x-eq0 c =
     let r = c in
-    let w = r.before.before in
-    let i = w.before.before in
-    let z = i.before.before in
+    let w = c in
+    let i = c in
+    let z = c in
     let q = r.ask.ensures in
     simp (z.if-due.false, eq-eqb _ _ z.if-x-eq0.true, ne_eqb _ _ i.if-x-eq0-2.false, lt-leb _ _ w.if-x.false, q.0, q.1)
 

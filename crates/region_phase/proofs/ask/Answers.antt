@@ -16,8 +16,8 @@ overflow_add-x c = omega (arith, memory_most c.args.width)
 pub returns : goal.returns
 returns c =
     let w = c in
-    let l = w.before.before.before in
-    let b = l.before.before in
+    let l = c in
+    let b = c in
     let a = b.args in
     let e = l.asks_for-n.ensures in
     let u = w.sahara_send_mem_read.ensures.is

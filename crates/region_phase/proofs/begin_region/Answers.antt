@@ -39,8 +39,8 @@ pub returns-then-past_memory : goal.returns-then-past_memory
 returns-then-past_memory c =
     λ y.
     let e = c in
-    let m = e.before in
-    let k = m.before.before.before in
+    let m = c in
+    let k = c in
     let a = (begun (goal.at.returns-then-past_memory c).After-check_after_open-check).args in
     let z : ltb (256 ^ field_size a.s.width) (a.x.base + a.x.len) ≡ true = sym m.past_memory.ensures ∙ e.if-past_memory.true in
     simp (sym (tested (goal.at.returns-then-past_memory c).After-check_after_open-check) ∙ m.in_default.is, z, c.moved-then-past_memory.ensures, c.past_end.ensures)
@@ -56,8 +56,8 @@ unfolding next_chunk
 returns-then-x c =
     λ y.
     let e = c in
-    let m = e.before in
-    let k = m.before.before.before in
+    let m = c in
+    let k = c in
     let a = (begun (goal.at.returns-then-x c).After-check_after_open-check).args in
     let z : ltb (256 ^ field_size a.s.width) (a.x.base + a.x.len) ≡ false = sym m.past_memory.ensures ∙ e.if-past_memory.false in
     simp (sym (tested (goal.at.returns-then-x c).After-check_after_open-check) ∙ m.in_default.is, z, le-leb _ _ c.if-x.true, c.close.ensures)
@@ -65,7 +65,7 @@ returns-then-x c =
 pub ask-c-requires : goal.ask-c-requires
 ask-c-requires c =
     let e = c in
-    let m = e.before in
+    let m = c in
     let b = begun (goal.at.ask-c-requires c).After-check_after_open-check in
     let x = b.args.x in
     let z = ltb-false (256 ^ field_size b.args.s.width) (x.base + x.len) (sym m.past_memory.ensures ∙ e.if-past_memory.false) in
@@ -76,10 +76,10 @@ unfolding next_chunk
 returns c =
     λ y.
     let r = c in
-    let w = r.before.before.before in
-    let e = w.before.before in
-    let m = e.before in
-    let k = m.before.before.before in
+    let w = c in
+    let e = c in
+    let m = c in
+    let k = c in
     let a = (begun (goal.at.returns c).After-check_after_open-check).args in
     let z : ltb (256 ^ field_size a.s.width) (a.x.base + a.x.len) ≡ false = sym m.past_memory.ensures ∙ e.if-past_memory.false in
     simp (sym (tested (goal.at.returns c).After-check_after_open-check) ∙ m.in_default.is, z, lt-leb _ _ w.if-x.false, c.counted_in.ensures, r.ask-c.ensures.0, r.ask-c.ensures.1)

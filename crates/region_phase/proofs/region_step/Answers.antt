@@ -55,7 +55,7 @@ passed g v e never =
 pub begin_region-requires : goal.begin_region-requires
 begin_region-requires c =
     let s = c in
-    let g = s.before.before.before.before in
+    let g = c in
     let a = (begun (goal.at.begin_region-requires c).After-advance_region-a).args in
     let e = s.in-Begins.is in
     let p = passed g D.Begins e refused≢begins in
@@ -100,8 +100,8 @@ returns-in-To c =
 pub returns-in-Begins : goal.returns-in-Begins
 returns-in-Begins c =
     let r = c in
-    let s = r.before.before in
-    let g = s.before.before.before.before in
+    let s = c in
+    let g = c in
     tells outcome_told
     (r.begin_region.ensures (begun (goal.at.returns-in-Begins c).After-advance_region-a).args.reply.now
     ∙ put_is g D.Begins s.in-Begins.is)

@@ -29,7 +29,7 @@ put_line-requires c = omega arith
 pub loop-i-preserved : goal.loop-i-preserved
 loop-i-preserved c =
     let w = c in
-    let e = w.before.before.before in
+    let e = c in
     let l = e.loop-i in
     let a = e.args in
     let f : ℕ = field_size a.width in
@@ -38,7 +38,7 @@ loop-i-preserved c =
     let q : e.entry_at-found.result.entry ≡ entry_in f t l.i = ap (λ (x : EntryAt). x.entry) e.entry_at-found.ensures ∙ entry_found f t l.i (omega arith) in
     let x : w.put_line.new.page ≡ sets p 0 (lines_of f t (suc l.i)) =
     w.put_line.ensures
-    ∙ ap (λ (y : RamdumpTable64). sets l.page-1 (57 * l.i) (line_of y)) q
+    ∙ ap (λ (y : RamdumpTable64). sets l.page (57 * l.i) (line_of y)) q
     ∙ ap (λ (d : List ℕ). sets d (57 * l.i) (line_of (entry_in f t l.i))) l.invariant.2
     ∙ sym (lines_more f t p l.i (omega arith)) in
     (omega arith, ap length w.put_line.ensures ∙ simp length-sets l.invariant.1, rw add-one x)

@@ -20,7 +20,7 @@ returns-then-page-n c =
 pub returns : goal.returns
 returns c =
     let w = c in
-    let e = w.before.before.before in
+    let e = c in
     let a = e.args in
     let f : ℕ = field_size a.width in
     let t : List ℕ = a.table.now in

@@ -69,10 +69,10 @@ put_data-requires c =
 pub returns : goal.returns
 returns c =
     let d = c in
-    let l = d.before.before.before.before in
-    let s = l.before.before.before.before in
-    let h = s.before.before.before.before in
-    let n = h.before.before.before.before in
+    let l = c in
+    let s = c in
+    let h = c in
+    let n = c in
     let a = n.args in
     let e : a.size ≡ length (data_of (first_contents a.set.now a.n)) = omega arith in
     rw

@@ -62,7 +62,7 @@ put_form-requires c =
 pub returns : goal.returns
 returns c =
     let w = c in
-    let s = w.before.before in
+    let s = c in
     let a = s.args in
     let B : List ℕ = a.set.now in
     let x : w.put_form.new.to ≡ sets a.to.now 0 (tidy_bytes B) =

@@ -66,7 +66,7 @@ bounds-classes-s c = byte (goal.at.bounds-classes-s c).After-shared_slice_known-
 pub returns-then-class-eq48 : goal.returns-then-class-eq48
 returns-then-class-eq48 c =
     let k = c in
-    let l = k.before in
+    let l = c in
     let a = l.args in
     let s = a.s.now in
     let e = no_row a.classes.now a.rows l.requires (get_or s l.loop-i.i 0) (byte (goal.at.returns-then-class-eq48 c).After-shared_slice_known-in-loop-i-1) c.if-class-eq48.true in
@@ -87,7 +87,7 @@ bounds-rows-class c = omega (arith, (digit (goal.at.bounds-rows-class c).Else-cl
 pub returns-then-i-eq0 : goal.returns-then-i-eq0
 returns-then-i-eq0 c =
     let k = c in
-    let l = k.before in
+    let l = c in
     let s = l.args.s.now in
     sym (not_whole s l.loop-i.i _ _ k.loop-i-test.true (leads (goal.at.returns-then-i-eq0 c).Else-class-eq48) c.behind-i.ensures c.if-i-eq0.true) ∙ l.loop-i.invariant
 

@@ -77,7 +77,7 @@ overflow_add-result-then-more-eq2 c = omega (arith, (third (goal.at.overflow_add
 pub returns-then-more-eq2 : goal.returns-then-more-eq2
 returns-then-more-eq2 c =
     let c4 = c in
-    let c2 = c4.before.before.before in
+    let c2 = c in
     let a = c2.args in
     three_bytes a.f a.s.now a.i c.if-more-eq2.true (second (goal.at.returns-then-more-eq2 c).Else-not-there).0 (third (goal.at.returns-then-more-eq2 c).Else-not-there-2).0
 
@@ -96,8 +96,8 @@ overflow_add-result-then-more-eq3 c = omega (arith, (fourth (goal.at.overflow_ad
 pub returns-then-more-eq3 : goal.returns-then-more-eq3
 returns-then-more-eq3 c =
     let c6 = c in
-    let c4 = c6.before.before.before in
-    let c2 = c4.before.before.before in
+    let c4 = c in
+    let c2 = c in
     let a = c2.args in
     four_bytes a.f a.s.now a.i c.if-more-eq3.true (second (goal.at.returns-then-more-eq3 c).Else-not-there).0 (third (goal.at.returns-then-more-eq3 c).Else-not-there-2).0 (fourth (goal.at.returns-then-more-eq3 c).Else-not-there-3).0
 

@@ -28,8 +28,8 @@ returns-then-not-is_width c =
 pub returns : goal.returns
 returns c =
     let e = c in
-    let v = e.before in
-    let w = v.before in
+    let v = c in
+    let w = c in
     let a = w.args in
     let q : e.entry_at.result ≡ entry_raw a.table.now a.width a.i =
     e.entry_at.ensures ∙ rw v.width_of.ensures (a-width _ _ _ (sym w.is_width.ensures ∙ not-false _ w.if-not-is_width.false-raw)) in

@@ -37,6 +37,6 @@ returns-else-from-entries c =
 pub returns : goal.returns
 returns c =
     let v = c in
-    let w = v.before in
+    let w = c in
     c.next_selected.ensures
     ∙ rw v.width_of.ensures (a-width _ _ _ _ _ (sym w.is_width.ensures ∙ not-false _ w.if-not-is_width.false-raw))

@@ -28,8 +28,8 @@ returns-then-not-is_width c =
 pub returns : goal.returns
 returns c =
     let r = c in
-    let v = r.before.before in
-    let w = v.before in
+    let v = c in
+    let w = c in
     let e = r.region_sheet.ensures.is in
     rw c.raw_sheet-2.ensures
     (ap crossed e ∙ rw v.width_of.ensures (ap crossed (a-width _ _ _ (sym w.is_width.ensures ∙ not-false _ w.if-not-is_width.false-raw))))
