@@ -19,7 +19,10 @@ read c =
 -- so is the name that was tested
 tested : (c : After-check_open-check) → (let a = c.args in
     c.check_open-check.result ≡ open_check (filename_of (field_size a.s.width) (entry_of (field_size a.s.width) a.table.now a.i)))
-tested c = c.check_open-check.ensures.is ∙ ap (λ (e : RamdumpTable64). open_check e.filename) (read c)
+tested c =
+    let b = c in
+    let e = entry_told (field_size b.args.s.width) b.args.table.now b.args.i c.entry_at-at.ensures b.requires in
+    c.check_open-check.ensures.is ∙ ap (λ (e : RamdumpTable64). open_check e.filename) e
 
 pub returns-in-Refused : goal.returns-in-Refused
 returns-in-Refused c = simp (sym (tested (goal.at.returns-in-Refused c).After-check_open-check) ∙ c.in-Refused.is, c.moved.ensures)

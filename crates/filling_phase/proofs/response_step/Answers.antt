@@ -16,15 +16,11 @@ use borrow.Author.Rules.{rules}
 use Rattle.filling_phase.proofs.response_step.Goals as goal
 use Rattle.filling_phase.proofs.response_step.Goals.{After-fill-n, After-guard-why, Start}
 
--- where the function begins, from behind the guard
-abbrev begun : After-guard-why → Start
-begun g = g.before.before.before.before.before.before.before.before
-
 pub returns-then-why-ne0 : goal.returns-then-why-ne0
 unfolding response_step
 returns-then-why-ne0 c =
     let g = c in
-    let a = (begun (goal.at.returns-then-why-ne0 c).After-guard-why).args in
+    let a = c.args in
     tells outcome_told
     (guard_refused a.s (P.Response a.x) a.table.now a.reply.now a.out.now _ g.guard-why.ensures
     g.filling_limit.ensures c.if-why-ne0.true c.untouched.ensures)
@@ -32,17 +28,17 @@ returns-then-why-ne0 c =
 pub fill-n-requires : goal.fill-n-requires
 fill-n-requires c =
     let g = c in
-    let a = (begun (goal.at.fill-n-requires c).After-guard-why).args in
+    let a = c.args in
     room a.s a.x a.reply.now a.out.now g.guard-why.ensures g.filling_limit.ensures c.if-why-ne0.false
 
 -- behind the guard the step is the phase's
-behind : (c : After-fill-n) {z : Outcome} → (let a = (begun c).args in
+behind : (c : After-fill-n) {z : Outcome} → (let a = c.args in
     z ≡ response_of a.s a.x a.delivery.now a.table.now a.reply.now a.out.now
     → z ≡ response_step a.s a.x a.delivery.now a.table.now a.reply.now a.out.now)
 unfolding response_step
 behind c e =
     let g = c in
-    let a = (begun c).args in
+    let a = c.args in
     guard_passed a.s (P.Response a.x) a.table.now a.reply.now a.out.now _ g.guard-why.ensures
     g.filling_limit.ensures c.if-why-ne0.false e
 
@@ -61,8 +57,8 @@ returns c =
     let i = c in
     let f = c in
     let g = c in
-    let a = (begun (goal.at.returns c).After-guard-why).args in
+    let a = c.args in
     let e = f.fill-n.ensures in
-    let h = (passed a.s _ a.out-1.now g.guard-why.ensures f.if-why-ne0.false).room in
-    let b = ap (λ (u : B.BuildOutcome). u.out-1) (w.build.ensures.is ∙ build_long Q.SwitchMode a.out-1.now h) in
+    let h = (passed a.s _ a.out.now g.guard-why.ensures f.if-why-ne0.false).room in
+    let b = ap (λ (u : B.BuildOutcome). u.out) (w.build.ensures.is ∙ build_long Q.SwitchMode a.out.now h) in
     tells outcome_told (behind (goal.at.returns c).After-fill-n (simp (le-ltb _ _ (rw e.0 at i.if-received-declared.false), e.1, e.0, c.moved-2.ensures, b)))

@@ -13,15 +13,11 @@ use borrow.Author.Rules.{rules}
 use Rattle.filling_phase.proofs.table_step.Goals as goal
 use Rattle.filling_phase.proofs.table_step.Goals.{After-fill-n, After-guard-why, Start}
 
--- where the function begins, from behind the guard
-abbrev begun : After-guard-why → Start
-begun g = g.before.before.before.before.before.before.before
-
 pub returns-then-why-ne0 : goal.returns-then-why-ne0
 unfolding table_step
 returns-then-why-ne0 c =
     let g = c in
-    let a = (begun (goal.at.returns-then-why-ne0 c).After-guard-why).args in
+    let a = c.args in
     tells outcome_told
     (guard_refused a.s (P.Table a.x) a.table.now a.reply.now a.out.now _ g.guard-why.ensures
     g.filling_limit.ensures c.if-why-ne0.true c.untouched.ensures)
@@ -29,17 +25,17 @@ returns-then-why-ne0 c =
 pub fill-n-requires : goal.fill-n-requires
 fill-n-requires c =
     let g = c in
-    let a = (begun (goal.at.fill-n-requires c).After-guard-why).args in
+    let a = c.args in
     room a.s a.x a.table.now a.out.now g.guard-why.ensures g.filling_limit.ensures c.if-why-ne0.false
 
 -- behind the guard the step is the phase's
-behind : (c : After-fill-n) {z : Outcome} → (let a = (begun c).args in
+behind : (c : After-fill-n) {z : Outcome} → (let a = c.args in
     z ≡ table_of a.s a.x a.delivery.now a.table.now a.reply.now a.out.now
     → z ≡ table_step a.s a.x a.delivery.now a.table.now a.reply.now a.out.now)
 unfolding table_step
 behind c e =
     let g = c in
-    let a = (begun c).args in
+    let a = c.args in
     guard_passed a.s (P.Table a.x) a.table.now a.reply.now a.out.now _ g.guard-why.ensures
     g.filling_limit.ensures c.if-why-ne0.false e
 

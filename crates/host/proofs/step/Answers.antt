@@ -12,20 +12,16 @@ use borrow.Author.Rules.{rules}
 use Rattle.host.proofs.step.Goals as goal
 use Rattle.host.proofs.step.Goals.{After-check_images, In-Good, In-Good-check_names, Start}
 
--- where the function begins, from behind the first check
-abbrev begun : After-check_images → Start
-begun i = i.before.before.before.before.before.before.before
-
 -- behind each check its bundle is well formed
-images-formed : (c : In-Good) → well_formed true (begun c).args.set.now ≡ true
+images-formed : (c : In-Good) → well_formed true c.args.set.now ≡ true
 images-formed c =
     let i = c in
-    checked_good (well_formed true (begun c).args.set.now) 1 (sym i.check_images.ensures.is ∙ c.in-Good.is)
+    checked_good (well_formed true c.args.set.now) 1 (sym i.check_images.ensures.is ∙ c.in-Good.is)
 
-names-formed : (c : In-Good-check_names) → well_formed false (begun c).args.names.now ≡ true
+names-formed : (c : In-Good-check_names) → well_formed false c.args.names.now ≡ true
 names-formed c =
     let n = c in
-    checked_good (well_formed false (begun c).args.names.now) 2 (sym n.check_names.ensures.is ∙ c.in-Good-check_names.is)
+    checked_good (well_formed false c.args.names.now) 2 (sym n.check_names.ensures.is ∙ c.in-Good-check_names.is)
 
 pub returns-in_default : goal.returns-in_default
 returns-in_default c =
@@ -60,7 +56,7 @@ returns c =
     let p = c in
     let n = c in
     let i = c in
-    let a = (begun (goal.at.returns c).After-check_images).args in
+    let a = c.args in
     tells outcome_told
     (p.phase_step.ensures.is
     ∙ sym (step_phase a.s a.delivery.now a.set.now a.names.now a.table.now a.reply.now a.out.now

@@ -13,6 +13,6 @@ pub returns : goal.returns
 returns c =
     let a = c.args in
     let x : List ℕ = a.x.now in
-    let f : length a.window ≡ 48 = omega (arith, slice-aggregate-copy-into c.before.before) in
+    let f : length a.window ≡ 48 = omega (arith, c.well_formed) in
     let e : c.least-n.result ≡ min (48 - a.held) (length x) = omega arith in
     c.copy_into.ensures ∙ ap (copied a.window a.held x) e ∙ copy_kept a.window f a.held x

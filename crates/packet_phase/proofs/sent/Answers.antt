@@ -27,7 +27,7 @@ pub returns-in-Send : goal.returns-in-Send
 returns-in-Send c =
     let w = c in
     let e = built (goal.at.returns-in-Send c).After-build in
-    (rw (sent-as (sym c.in-Send.is ∙ ap (λ (x : BuildOutcome). x.built) e)) refl, ap (λ (x : BuildOutcome). x.out-1) e)
+    (rw (sent-as (sym c.in-Send.is ∙ ap (λ (x : BuildOutcome). x.built) e)) refl, ap (λ (x : BuildOutcome). x.out) e)
 
 pub returns-in-Refused : goal.returns-in-Refused
 returns-in-Refused c =

@@ -27,7 +27,7 @@ returns c =
     let w : List ℕ = a.w in
     let t : List ℕ = a.table.now in
     let y : List ℕ = a.reply.now in
-    let f : length w ≡ 48 = omega (arith, m.well-formed) in
+    let f : length w ≡ 48 = omega (arith, m.well_formed) in
     let k : m.least-k.result ≡ min (length_field w) 48 = omega (arith, m.length_in.ensures) in
     let p : take m.least-k.result w ≡ take (length_field w) w = ap (λ (n : ℕ). take n w) k ∙ window_take w f (length_field w) in
     c.act.ensures t y

@@ -26,7 +26,6 @@ use borrow.Author.Rules.{rules}
 use Rattle.raw_place.proofs.step_in_place.Goals as goal
 use Rattle.raw_place.proofs.step_in_place.Goals.{After-advance_region-a, Start}
 
--- where the function begins, and the out buffer, from behind the step over the counts
 abbrev begun : After-advance_region-a → Start
 begun g =
     g.before.before.before.before.before.before.before.before.before.before.before.before.before.before.before.before.before.before.before.before.before.before.before
@@ -35,22 +34,22 @@ abbrev after : After-advance_region-a → List ℕ
 after g = g.advance_region-a.last.1.1.1.1.1.1.1.0
 
 -- there the numbers are those of a session in a region, and both bundles are well formed
-in-region : (g : After-advance_region-a) → (let a = (begun c).args in in_region a.head.now a.numbers.now ≡ true)
-    × ((well_formed true (begun c).args.set.now ≡ true) × (well_formed false (begun c).args.names.now ≡ true))
+in-region : (g : After-advance_region-a) → (let a = c.args in in_region a.head.now a.numbers.now ≡ true)
+    × ((well_formed true c.args.set.now ≡ true) × (well_formed false c.args.names.now ≡ true))
 in-region g =
     let e = c in
-    let a = (begun c).args in
+    let a = c.args in
     let p = by_then (in_region a.head.now a.numbers.now) _ _ no (sym e.ready.ensures ∙ not-false _ e.if-not-ready.false-raw) in
     (p.0, by_then (well_formed true a.set.now) _ _ no p.1)
 
 -- and what was come to is the definition's
-come-to : (g : After-advance_region-a) (v : Advance) → g.advance_region-a.result ≡ v → (let a = (begun c).args in
+come-to : (g : After-advance_region-a) (v : Advance) → g.advance_region-a.result ≡ v → (let a = c.args in
     let n = a.numbers.now in
     advanced v (after c)
     ≡ advance_of (width_of (get_or n 8 0)) (opening_of (get_or a.head.now 0 0) (get_or a.head.now 1 0) (get_or a.head.now 2 0))
     (get_or n 0 0) (get_or n 1 0) (region_at n) (length a.delivery.now) a.table.now a.out.now)
 come-to g v e =
-    let a = (begun c).args in
+    let a = c.args in
     let n = a.numbers.now in
     let h = a.head.now in
     let v = c in
@@ -80,7 +79,7 @@ pub returns-in-To : goal.returns-in-To
 returns-in-To c =
     let m = c in
     let g = c in
-    let a = (begun (goal.at.returns-in-To c).After-advance_region-a).args in
+    let a = c.args in
     let k : Counted = m.in-To.c in
     let r = in-region (goal.at.returns-in-To c).After-advance_region-a in (
       ap (λ (z : RawTold). raw_outcome (stepped_at (raw_at a.head.now m.count-t.new.numbers a.window.now) z) a.table.now a.reply.now (after (goal.at.returns-in-To c).After-advance_region-a))
@@ -98,7 +97,7 @@ pub returns-in-Waits : goal.returns-in-Waits
 returns-in-Waits c =
     let m = c in
     let g = c in
-    let a = (begun (goal.at.returns-in-Waits c).After-advance_region-a).args in
+    let a = c.args in
     let r = in-region (goal.at.returns-in-Waits c).After-advance_region-a in (
       ap (λ (z : RawTold). raw_outcome (stepped_at (raw_at a.head.now a.numbers.now a.window.now) z) a.table.now a.reply.now (after (goal.at.returns-in-Waits c).After-advance_region-a))
           (c.placed-in-Waits.ensures.0 ∙ m.told-t.ensures)
@@ -113,7 +112,7 @@ returns c =
     let s = c in
     let e = c in
     let g = c in
-    let a = (begun (goal.at.returns c).After-advance_region-a).args in
+    let a = c.args in
     let n = a.numbers.now in
     let h = a.head.now in
     let w = a.window.now in

@@ -6,21 +6,17 @@ use borrow.Author.Rules.{rules}
 use Rattle.raw_place.proofs.wanted_in_place.Goals as goal
 use Rattle.raw_place.proofs.wanted_in_place.Goals.{After-in_region, Start}
 
--- where the function begins, from behind the test of its numbers
-abbrev begun : After-in_region → Start
-begun i = i.before.before.before
-
 pub returns-then-in_region : goal.returns-then-in_region
 returns-then-in_region c =
     let g = c in
     let i = c in
-    let a = (begun (goal.at.returns-then-in_region c).After-in_region).args in
+    let a = c.args in
     c.waits_at.ensures ∙ wanted_at a.head.now a.numbers.now a.window.now (sym i.in_region.ensures ∙ g.if-in_region.true)
 
 pub returns-then-head-eq-REGION : goal.returns-then-head-eq-REGION
 returns-then-head-eq-REGION c =
     let i = c in
-    let a = (begun (goal.at.returns-then-head-eq-REGION c).After-in_region).args in
+    let a = c.args in
     wanted_none a.head.now a.numbers.now a.window.now i.if-head-eq-REGION.true (sym i.in_region.ensures ∙ c.if-in_region.false)
 
 pub returns : goal.returns

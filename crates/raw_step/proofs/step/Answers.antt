@@ -19,12 +19,8 @@ use borrow.Author.Rules.{rules}
 use Rattle.raw_step.proofs.step.Goals as goal
 use Rattle.raw_step.proofs.step.Goals.{After-check_images, After-is_session-is_session, After-raw_at-s, In-Good, In-Good-check_names, Start}
 
--- where the function begins, and the session in place there, from behind its reading
-abbrev begun : After-raw_at-s → Start
-begun i = i.before.before.before.before.before.before.before.before.before.before
-
 abbrev at : After-raw_at-s → RawSession
-at i = raw_at (begun c).args.head.now (begun c).args.numbers.now (begun c).args.window.now
+at i = raw_at c.args.head.now c.args.numbers.now c.args.window.now
 
 -- the reading, from behind the first check and from behind both
 abbrev read : After-check_images → After-raw_at-s
@@ -51,7 +47,7 @@ pub returns-in_default : goal.returns-in_default
 returns-in_default c =
     let k = c in
     let i = read (goal.at.returns-in_default c).After-check_images in
-    let a = (begun (goal.at.returns-in_default c).After-raw_at-s).args in
+    let a = c.args in
     let w : well_formed true a.set.now ≡ false =
     checked_refused (well_formed true a.set.now) 1 _ (sym k.check_images.ensures.is ∙ c.in_default.is) in
     ap (λ (z : RawTold). raw_outcome (stepped_at (at (goal.at.returns-in_default c).After-raw_at-s) z) a.table.now a.reply.now a.out.now) c.told.ensures
@@ -67,7 +63,7 @@ pub returns-in_default-check_names : goal.returns-in_default-check_names
 returns-in_default-check_names c =
     let n = c in
     let i = read (goal.at.returns-in_default-check_names c).After-check_images in
-    let a = (begun (goal.at.returns-in_default-check_names c).After-raw_at-s).args in
+    let a = c.args in
     let w : well_formed false a.names.now ≡ false =
     checked_refused (well_formed false a.names.now) 2 _ (sym n.check_names.ensures.is ∙ c.in_default-check_names.is) in
     ap (λ (z : RawTold). raw_outcome (stepped_at (at (goal.at.returns-in_default-check_names c).After-raw_at-s) z) a.table.now a.reply.now a.out.now) c.told-in_default-check_names.ensures
@@ -78,7 +74,7 @@ returns-then-not-is_session c =
     let n = c in
     let g = c in
     let i = read-2 (goal.at.returns-then-not-is_session c).In-Good-check_names in
-    let a = (begun (goal.at.returns-then-not-is_session c).After-raw_at-s).args in
+    let a = c.args in
     ap (λ (z : RawTold). raw_outcome (stepped_at (at (goal.at.returns-then-not-is_session c).After-raw_at-s) z) a.table.now a.reply.now a.out.now)
     (c.told-then-not-is_session.ensures ∙ ap (λ (k : ℕ). told_of 0 (A.Refused k)) n.no_session.ensures)
     ∙ step_none (at (goal.at.returns-then-not-is_session c).After-raw_at-s) a.delivery.now a.set.now a.names.now a.table.now a.reply.now a.out.now
@@ -91,15 +87,15 @@ returns c =
     let e = c in
     let g = c in
     let i = read-2 (goal.at.returns c).In-Good-check_names in
-    let a = (begun (goal.at.returns c).After-raw_at-s).args in
+    let a = c.args in
     let r = i.raw_at-s.ensures in
     let s = c.phase_step-t in
     let l = s.new.1.1.1.1.1 in
     let o : outcome s.result l.0 l.1.0 l.1.1.0
-    ≡ phase_step (session_of (at (goal.at.returns c).After-raw_at-s)) a.delivery.now a.set.now a.names.now a.table-1.now a.reply-1.now a.out-1.now (phase_of (at (goal.at.returns c).After-raw_at-s)) =
+    ≡ phase_step (session_of (at (goal.at.returns c).After-raw_at-s)) a.delivery.now a.set.now a.names.now a.table.now a.reply.now a.out.now (phase_of (at (goal.at.returns c).After-raw_at-s)) =
     rw (← p.session_of-session.ensures ∙ ap session_of r, ← p.phase_of-p.ensures ∙ ap phase_of r) s.ensures.is in
     ap (λ (z : RawStepped). raw_outcome z l.0 l.1.0 l.1.1.0) (c.put_back.ensures ∙ c.raw_stepped.ensures)
     ∙ ap raw_outcome_of o
-    ∙ step_formed (at (goal.at.returns c).After-raw_at-s) a.delivery.now a.set.now a.names.now a.table-1.now a.reply-1.now a.out-1.now
+    ∙ step_formed (at (goal.at.returns c).After-raw_at-s) a.delivery.now a.set.now a.names.now a.table.now a.reply.now a.out.now
     (images-formed (goal.at.returns c).In-Good) (names-formed (goal.at.returns c).In-Good-check_names)
     (tested g.before.before.before.before.before.before true (not-false _ e.if-not-is_session.false-raw))

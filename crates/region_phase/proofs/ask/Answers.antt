@@ -22,4 +22,4 @@ returns c =
     let e = l.asks_for-n.ensures in
     let u = w.sahara_send_mem_read.ensures.is
     ∙ build_long (Q.MemRead a.width (a.x.base + a.x.done) l.asks_for-n.result) a.out.now b.requires.0 in
-    (simp (c.recount.ensures, c.read_size.ensures, e, add-one), simp (ap (λ (z : BuildOutcome). z.out-1) u, e))
+    (simp (c.recount.ensures, c.read_size.ensures, e, add-one), simp (ap (λ (z : BuildOutcome). z.out) u, e))

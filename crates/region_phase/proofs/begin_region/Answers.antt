@@ -14,20 +14,16 @@ use Rattle.session.specs.RegionPhase.{next_chunk, name_in}
 use Rattle.turn.proofs.Laws.{entry_told}
 use borrow.Author.Rules.{rules}
 use Rattle.region_phase.proofs.begin_region.Goals as goal
-use Rattle.region_phase.proofs.begin_region.Goals.{After-check_after_open-check, Start}
+use Rattle.region_phase.proofs.begin_region.Goals.{After-check_after_open-check}
 
--- where the function begins, from behind the test of the name
-abbrev begun : After-check_after_open-check → Start
-begun c = c.before.before.before.before.before.before.before
-
--- there the name that was tested c the entry's
-tested : (c : After-check_after_open-check) → (let a = (begun c).args in
+-- there the name that was tested is the entry's
+tested : (c : After-check_after_open-check) → (let a = c.args in
     c.check_after_open-check.result ≡ after_open_check (name_in a.s.width a.table.now a.x))
 tested c =
-    let a = (begun c).args in
+    let a = c.args in
     c.check_after_open-check.ensures.is
     ∙ ap (λ (e : RamdumpTable64). after_open_check e.filename)
-    (entry_told (field_size a.s.width) a.table.now a.x.entry c.entry_at-at.ensures (begun c).requires.1)
+    (entry_told (field_size a.s.width) a.table.now a.x.entry c.entry_at-at.ensures c.requires.1)
 
 pub returns-in-Refused : goal.returns-in-Refused
 returns-in-Refused c =
@@ -41,14 +37,14 @@ returns-then-past_memory c =
     let e = c in
     let m = c in
     let k = c in
-    let a = (begun (goal.at.returns-then-past_memory c).After-check_after_open-check).args in
+    let a = c.args in
     let z : ltb (256 ^ field_size a.s.width) (a.x.base + a.x.len) ≡ true = sym m.past_memory.ensures ∙ e.if-past_memory.true in
     simp (sym (tested (goal.at.returns-then-past_memory c).After-check_after_open-check) ∙ m.in_default.is, z, c.moved-then-past_memory.ensures, c.past_end.ensures)
 
 pub close-requires : goal.close-requires
 close-requires c =
-    let b = begun (goal.at.close-requires c).After-check_after_open-check in
-    let h = there_fits (field_size b.args.s.width) b.args.table.now b.args.x.entry b.pre.1 in
+    let b = c in
+    let h = there_fits (field_size b.args.s.width) b.args.table.now b.args.x.entry b.requires.1 in
     omega arith
 
 pub returns-then-x : goal.returns-then-x
@@ -58,7 +54,7 @@ returns-then-x c =
     let e = c in
     let m = c in
     let k = c in
-    let a = (begun (goal.at.returns-then-x c).After-check_after_open-check).args in
+    let a = c.args in
     let z : ltb (256 ^ field_size a.s.width) (a.x.base + a.x.len) ≡ false = sym m.past_memory.ensures ∙ e.if-past_memory.false in
     simp (sym (tested (goal.at.returns-then-x c).After-check_after_open-check) ∙ m.in_default.is, z, le-leb _ _ c.if-x.true, c.close.ensures)
 
@@ -66,10 +62,10 @@ pub ask-c-requires : goal.ask-c-requires
 ask-c-requires c =
     let e = c in
     let m = c in
-    let b = begun (goal.at.ask-c-requires c).After-check_after_open-check in
+    let b = c in
     let x = b.args.x in
     let z = ltb-false (256 ^ field_size b.args.s.width) (x.base + x.len) (sym m.past_memory.ensures ∙ e.if-past_memory.false) in
-    (b.pre.0, c.if-x.false, z, b.pre.2)
+    (b.requires.0, c.if-x.false, z, b.requires.2)
 
 pub returns : goal.returns
 unfolding next_chunk
@@ -80,6 +76,6 @@ returns c =
     let e = c in
     let m = c in
     let k = c in
-    let a = (begun (goal.at.returns c).After-check_after_open-check).args in
+    let a = c.args in
     let z : ltb (256 ^ field_size a.s.width) (a.x.base + a.x.len) ≡ false = sym m.past_memory.ensures ∙ e.if-past_memory.false in
     simp (sym (tested (goal.at.returns c).After-check_after_open-check) ∙ m.in_default.is, z, lt-leb _ _ w.if-x.false, c.counted_in.ensures, r.ask-c.ensures.0, r.ask-c.ensures.1)

@@ -25,30 +25,27 @@ use Rattle.region_phase.proofs.Laws.{
 }
 use borrow.Author.Rules.{rules}
 use Rattle.region_phase.proofs.region_step.Goals as goal
-use Rattle.region_phase.proofs.region_step.Goals.{After-advance_region-a, Start}
+use Rattle.region_phase.proofs.region_step.Goals.{After-advance_region-a}
 
--- where the function begins, and the out buffer, from behind the step over the counts
-abbrev begun : After-advance_region-a → Start
-begun g = g.before.before.before.before.before.before.before
-
+-- the out buffer behind the step over the counts
 abbrev after : After-advance_region-a → List ℕ
-after g = g.advance_region-a.last.1.1.1.1.1.1.1.0
+after g = g.advance_region-a.new.out
 
 -- put into the session, what it came to is the step
-put_is : (g : After-advance_region-a) (v : Advance) → g.advance_region-a.result ≡ v → (let a = (begun c).args in
-    on_advance a.s a.k a.x a.table.now a.reply.now (after c) v
+put_is : (g : After-advance_region-a) (v : Advance) → g.advance_region-a.result ≡ v → (let a = g.args in
+    on_advance a.s a.k a.x a.table.now a.reply.now (after g) v
     ≡ region_step a.s a.k a.x a.delivery.now a.table.now a.reply.now a.out.now)
 put_is g v e =
-    let a = (begun c).args in
-    ap (on_advance a.s a.k a.x a.table.now a.reply.now (after c)) (sym e)
+    let a = g.args in
+    ap (on_advance a.s a.k a.x a.table.now a.reply.now (after g)) (sym e)
     ∙ ap (λ (z : Advanced). on_advance a.s a.k a.x a.table.now a.reply.now z.out z.advance) g.advance_region-a.ensures
     ∙ sym (advance_is a.s a.k a.x a.delivery.now a.table.now a.reply.now a.out.now)
 
--- what is begun c closed is not refused
+-- what is begun or closed is not refused
 passed : (g : After-advance_region-a) (v : Advance) → g.advance_region-a.result ≡ v → ((why : ℕ) → D.Refused why ≡ v → ⊥)
-    → (let a = (begun c).args in Passed a.s.width a.s.reads a.k a.x a.table.now a.out.now)
+    → (let a = g.args in Passed a.s.width a.s.reads a.k a.x a.table.now a.out.now)
 passed g v e never =
-    let a = (begun c).args in
+    let a = g.args in
     advance_passed a.s.width a.s.opening a.s.reads a.k a.x (length a.delivery.now) a.table.now a.out.now
     (λ why q. never why (ap (λ (z : Advanced). z.advance) q ∙ e)) (sym g.advance_region-a.ensures)
 
@@ -56,11 +53,11 @@ pub begin_region-requires : goal.begin_region-requires
 begin_region-requires c =
     let s = c in
     let g = c in
-    let a = (begun (goal.at.begin_region-requires c).After-advance_region-a).args in
+    let a = c.args in
     let e = s.in-Begins.is in
-    let p = passed g D.Begins e refused≢begins in
-    let h : after (goal.at.begin_region-requires c).After-advance_region-a ≡ a.out-1.now =
-    advance_still a.s.width a.s.opening a.s.reads a.x (length a.delivery.now) a.out-1.now begins≢to
+    let p = passed (goal.at.begin_region-requires c).After-advance_region-a D.Begins e refused≢begins in
+    let h : after (goal.at.begin_region-requires c).After-advance_region-a ≡ a.out.now =
+    advance_still a.s.width a.s.opening a.s.reads a.x (length a.delivery.now) a.out.now begins≢to
     a.k a.table.now (sym g.advance_region-a.ensures ∙ ap (λ (z : Advance). advanced z (after (goal.at.begin_region-requires c).After-advance_region-a)) e) in
     let w = p.within in
     let room = subst (λ (z : List ℕ). 48 ≤ length z) (sym h) p.room in
@@ -69,33 +66,33 @@ begin_region-requires c =
 pub close-requires : goal.close-requires
 close-requires c =
     let g = c in
-    let a = (begun (goal.at.close-requires c).After-advance_region-a).args in
-    let p = passed g D.Closes c.in-Closes.is refused≢closes in
-    next_fits (field_size a.s.width) a.k a.x.entry p.within.entry (begun (goal.at.close-requires c).After-advance_region-a).ranges.k
+    let a = c.args in
+    let p = passed (goal.at.close-requires c).After-advance_region-a D.Closes c.in-Closes.is refused≢closes in
+    next_fits (field_size a.s.width) a.k a.x.entry p.within.entry c.ranges.k
 
 pub returns-in-Refused : goal.returns-in-Refused
 returns-in-Refused c =
     let g = c in
-    let a = (begun (goal.at.returns-in-Refused c).After-advance_region-a).args in
+    let a = c.args in
     tells outcome_told
     (ap (λ (r : Stepped). outcome r a.table.now a.reply.now (after (goal.at.returns-in-Refused c).After-advance_region-a)) c.untouched.ensures
-    ∙ put_is g (D.Refused _) c.in-Refused.is)
+    ∙ put_is (goal.at.returns-in-Refused c).After-advance_region-a (D.Refused _) c.in-Refused.is)
 
 pub returns-in-Waits : goal.returns-in-Waits
 returns-in-Waits c =
     let g = c in
-    let a = (begun (goal.at.returns-in-Waits c).After-advance_region-a).args in
+    let a = c.args in
     tells outcome_told
     (ap (λ (r : Stepped). outcome r a.table.now a.reply.now (after (goal.at.returns-in-Waits c).After-advance_region-a)) c.waits.ensures
-    ∙ put_is g D.Waits c.in-Waits.is)
+    ∙ put_is (goal.at.returns-in-Waits c).After-advance_region-a D.Waits c.in-Waits.is)
 
 pub returns-in-To : goal.returns-in-To
 returns-in-To c =
     let g = c in
-    let a = (begun (goal.at.returns-in-To c).After-advance_region-a).args in
+    let a = c.args in
     tells outcome_told
     (ap (λ (r : Stepped). outcome r a.table.now a.reply.now (after (goal.at.returns-in-To c).After-advance_region-a)) c.counted_in.ensures
-    ∙ put_is g (D.To _) c.in-To.is)
+    ∙ put_is (goal.at.returns-in-To c).After-advance_region-a (D.To _) c.in-To.is)
 
 pub returns-in-Begins : goal.returns-in-Begins
 returns-in-Begins c =
@@ -103,13 +100,13 @@ returns-in-Begins c =
     let s = c in
     let g = c in
     tells outcome_told
-    (r.begin_region.ensures (begun (goal.at.returns-in-Begins c).After-advance_region-a).args.reply.now
-    ∙ put_is g D.Begins s.in-Begins.is)
+    (r.begin_region.ensures c.args.reply.now
+    ∙ put_is (goal.at.returns-in-Begins c).After-advance_region-a D.Begins s.in-Begins.is)
 
 pub returns-in-Closes : goal.returns-in-Closes
 returns-in-Closes c =
     let g = c in
-    let a = (begun (goal.at.returns-in-Closes c).After-advance_region-a).args in
+    let a = c.args in
     tells outcome_told
     (ap (λ (r : Stepped). outcome r a.table.now a.reply.now (after (goal.at.returns-in-Closes c).After-advance_region-a)) c.close.ensures
-    ∙ put_is g D.Closes c.in-Closes.is)
+    ∙ put_is (goal.at.returns-in-Closes c).After-advance_region-a D.Closes c.in-Closes.is)

@@ -10,4 +10,4 @@ pub returns : goal.returns
 unfolding reset_raw
 returns c =
     let e = c.sahara_reset.ensures.is in
-    rw c.built_number.ensures (ap (λ (x : BuildOutcome). reset_outcome (built_number x.built) x.out-1) e)
+    rw c.built_number.ensures (ap (λ (x : BuildOutcome). reset_outcome (built_number x.built) x.out) e)
