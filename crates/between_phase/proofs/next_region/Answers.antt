@@ -11,7 +11,7 @@ use Rattle.turn.proofs.Laws.{entry_within}
 use Rattle.between_phase.proofs.next_region.Goals as goal
 use Rattle.between_phase.proofs.next_region.Goals.{After-next_selected-i}
 
--- the entry that was found c the definition's
+-- the entry that was found is the definition's
 found : (c : After-next_selected-i)
     → (let a = c.args in
     let f = field_size a.s.width in

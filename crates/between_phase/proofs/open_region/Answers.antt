@@ -9,7 +9,7 @@ use borrow.Author.Rules.{rules}
 use Rattle.between_phase.proofs.open_region.Goals as goal
 use Rattle.between_phase.proofs.open_region.Goals.{After-check_open-check, After-entry_at-at}
 
--- the entry that was read c the table's
+-- the entry that was read is the table's
 read : (c : After-entry_at-at) → (let a = c.args in
     c.entry_at-at.result.entry ≡ decoded (field_size a.s.width) (entry_of (field_size a.s.width) a.table.now a.i))
 read c =

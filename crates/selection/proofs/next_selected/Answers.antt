@@ -16,7 +16,7 @@ use borrow.Author.Rules.{rules}
 use Rattle.selection.proofs.next_selected.Goals as goal
 use Rattle.selection.proofs.next_selected.Goals.{After-selects}
 
--- what was answered c entry i
+-- what was answered of entry i
 answered : (c : After-selects) (b : Bool) → c.selects.result ≡ b → (let a = c.args in
     selected_at (field_size a.width) a.names.now a.table.now c.loop-i.i ≡ b)
 answered c b e =

@@ -11,12 +11,12 @@ use Rattle.utf8.proofs.Laws.{goes_turn, is_digit, no_row, its_row, whole, not_wh
 use Rattle.utf8.proofs.sequences.Goals as goal
 use Rattle.utf8.proofs.sequences.Goals.{After-behind-i, After-shared_slice_known-in-loop-i-1, Else-class-eq48}
 
--- the byte c `i` is one
+-- the byte at `i` is one
 byte : (c : After-shared_slice_known-in-loop-i-1)
     → (let l = c in get_or l.args.s.now l.loop-i.i 0 < 256)
 byte c = omega (arith, c.shared_slice_known-in-loop-i-1.given c.loop-i.i)
 
--- where its digit c not '0': the digit, and the row that this is of
+-- where its digit is not '0': the digit, and the row that this is of
 digit : (c : Else-class-eq48)
     → (let l = c in
     let a = l.args in
