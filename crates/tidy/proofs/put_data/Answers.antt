@@ -1,7 +1,7 @@
 -- `tidy::put_data` meets its contract. The loop's invariant: the bytes of the first i slots are stored, and the sum is how many they are. Assumes nothing.
 use mathlib.Core.Path.{◌≡◌, refl, sym, ap, ◌∙◌}
 use mathlib.Core.List.{List}
-use Prim.Native.Nat.{ℕ, suc, ◌+◌, ◌-◌, ◌≤◌}
+use Prim.Native.Nat.{ℕ, suc, ◌+◌}
 use native.Mathlib.Numerals.{add-one}
 use native.Mathlib.Omega.{arith}
 use lib.ListN.{length}
@@ -10,7 +10,6 @@ use Rattle.bundle.specs.Content.{bytes_in, content_of}
 use Rattle.writer.specs.Writer.{data_of}
 use Rattle.tidied.specs.Tidy.{first_contents}
 use Rattle.tidied.proofs.Laws.{data_none, data_grows, data_up_to, data_stored}
-use borrow.Author.Rules.{rules}
 use Rattle.tidy.proofs.put_data.Goals as goal
 
 pub loop-i-init : goal.loop-i-init

@@ -1,80 +1,64 @@
 -- `tidy::put_form` meets its contract: its stores, one behind the other, are the form (`form_stored`), and none changes the buffer's length. Assumes nothing.
-use mathlib.Core.Path.{◌≡◌, refl, ap, ◌∙◌}
-use Prim.Native.Nat.{◌+◌, ◌*◌, ◌≤◌}
+use mathlib.Core.List.{List}
+use mathlib.Core.Path.{◌≡◌, ap, ◌∙◌}
+use Prim.Native.Nat.{ℕ, ◌+◌, ◌*◌, ◌≤◌}
 use native.Mathlib.Omega.{arith}
 use lib.ListN.{length}
 use lib.Seq.{sets, length-sets}
-use Rattle.field.specs.Field.{Written, le_bytes}
+use Rattle.field.specs.Field.{Written, le_bytes, written, put_at}
+use Rattle.field.specs.declared.Put.{Put}
 use Rattle.field.proofs.Laws.{put_done}
-use Rattle.writer.specs.Writer.{data_of}
+use Rattle.writer.specs.Writer.{data_of, bundle_bytes}
 use Rattle.writer.proofs.Laws.{length_bundle}
 use Rattle.tidied.specs.Tidy.{first_contents}
 use Rattle.tidied.proofs.Laws.{length_first, form_stored}
-use borrow.Author.Rules.{rules}
 use Rattle.tidy.proofs.put_form.Goals as goal
-use Rattle.tidy.proofs.put_form.Goals.{After-put_lengths, After-put_starts, After-put_u32, After-put_u32-2}
 
--- the buffer has room for the whole
-room : (c : After-put_u32)
-    → let a = c.args in
-    8 + 8 * a.n + length (data_of (first_contents a.set.now a.n)) ≤ length a.to.now
-room c =
-    let a = c.args in
-    omega (arith, c.requires, length_bundle (first_contents a.set.now a.n), length_first a.set.now a.n)
+-- a buffer has room for the whole form
+room : (set to : List ℕ) (n : ℕ)
+    → length (bundle_bytes (first_contents set n)) ≤ length to
+    → 8 + 8 * n + length (data_of (first_contents set n)) ≤ length to
+room set to n h = omega (arith, h, length_bundle (first_contents set n), length_first set n)
 
--- the buffer behind each store, and that its length stays
-count : (c : After-put_u32) → let a = c.args in c.put_u32.new.d ≡ sets a.to.now 0 (le_bytes 4 a.n)
-count c = ap (λ (x : Written). x.bytes) (c.put_u32.ensures ∙ put_done _ _ _ _ (omega (arith, room c)))
+-- a buffer behind a number's store
+stored : (p : Put) (d e : List ℕ) (at v : ℕ) → written p e ≡ put_at 4 d at v → at + 4 ≤ length d → e ≡ sets d at (le_bytes 4 v)
+stored p d e at v w h = ap (λ (x : Written). x.bytes) (w ∙ put_done 4 d at v h)
 
-length-counted : (c : After-put_u32) → length c.put_u32.new.d ≡ length c.args.to.now
-length-counted c = ap length (count c) ∙ rw length-sets refl
-
-sized : (c : After-put_u32-2)
-    → let b = c in
-    c.put_u32-2.new.d ≡ sets b.put_u32.new.d 4 (le_bytes 4 b.args.size)
-sized c =
-    let b = c in
-    ap (λ (x : Written). x.bytes) (c.put_u32-2.ensures ∙ put_done _ _ _ _ (omega (arith, room c, length-counted c)))
-
-length-sized : (c : After-put_u32-2)
-    → length c.put_u32-2.new.d ≡ length c.args.to.now
-length-sized c = ap length (sized c) ∙ rw length-sets (length-counted c)
-
-length-started : (c : After-put_starts)
-    → length c.put_starts.new.to
-    ≡ length c.args.to.now
-length-started c = ap length c.put_starts.ensures ∙ rw length-sets (length-sized c)
-
-length-measured : (c : After-put_lengths)
-    → length c.put_lengths.new.to
-    ≡ length
-    c.args.to.now
-length-measured c = ap length c.put_lengths.ensures ∙ rw length-sets (length-started c)
+-- both numbers' stores
+counted : (set to d e : List ℕ) (n size : ℕ) (p q : Put)
+    → length (bundle_bytes (first_contents set n)) ≤ length to
+    → written p d ≡ put_at 4 to 0 n
+    → written q e ≡ put_at 4 d 4 size
+    → (d ≡ sets to 0 (le_bytes 4 n)) × (e ≡ sets d 4 (le_bytes 4 size)) × (length e ≡ length to)
+counted set to d e n size p q h x y =
+    let r = room set to n h in
+    let a : d ≡ sets to 0 (le_bytes 4 n) = stored p to d 0 n x (omega arith) in
+    let b : e ≡ sets d 4 (le_bytes 4 size) = stored q d e 4 size y (omega (arith, simp length-sets at (ap length a))) in
+    (a, b, (simp length-sets at (ap length b)) ∙ (simp length-sets at (ap length a)))
 
 pub put_starts-requires : goal.put_starts-requires
 put_starts-requires c =
-    let h = c in
-    (omega (arith, room (goal.at.put_starts-requires c).After-put_u32, length-sized (goal.at.put_starts-requires c).After-put_u32-2), omega arith)
+    let a = c.args in
+    let k = counted a.set.now a.to.now _ _ a.n a.size _ _ c.requires.0 c.put_u32.ensures c.put_u32-2.ensures in
+    (omega (arith, room a.set.now a.to.now a.n c.requires.0, k.2), omega arith)
 
 pub put_lengths-requires : goal.put_lengths-requires
 put_lengths-requires c =
-    let s = c in
-    (omega (arith, room (goal.at.put_lengths-requires c).After-put_u32, length-started (goal.at.put_lengths-requires c).After-put_starts), omega arith)
+    let a = c.args in
+    let k = counted a.set.now a.to.now _ _ a.n a.size _ _ c.requires.0 c.put_u32.ensures c.put_u32-2.ensures in
+    (omega (arith, room a.set.now a.to.now a.n c.requires.0, simp length-sets at (ap length c.put_starts.ensures), k.2), omega arith)
 
 pub put_data-requires : goal.put_data-requires
 put_data-requires c =
-    let l = c in
-    omega (arith, room (goal.at.put_data-requires c).After-put_u32, length-measured (goal.at.put_data-requires c).After-put_lengths)
+    let a = c.args in
+    let k = counted a.set.now a.to.now _ _ a.n a.size _ _ c.requires.0 c.put_u32.ensures c.put_u32-2.ensures in
+    omega (arith, room a.set.now a.to.now a.n c.requires.0, simp length-sets at (ap length c.put_lengths.ensures), simp length-sets at (ap length c.put_starts.ensures), k.2)
 
 pub returns : goal.returns
 returns c =
-    let d = c in
-    let l = c in
-    let s = c in
-    let h = c in
-    let n = c in
-    let a = n.args in
+    let a = c.args in
+    let k = counted a.set.now a.to.now _ _ a.n a.size _ _ c.requires.0 c.put_u32.ensures c.put_u32-2.ensures in
     let e : a.size ≡ length (data_of (first_contents a.set.now a.n)) = omega arith in
     rw
-    (d.put_data.ensures, l.put_lengths.ensures, s.put_starts.ensures, sized (goal.at.returns c).After-put_u32-2, count (goal.at.returns c).After-put_u32, e)
+    (c.put_data.ensures, c.put_lengths.ensures, c.put_starts.ensures, k.1, k.0, e)
     (form_stored a.set.now a.to.now a.n)

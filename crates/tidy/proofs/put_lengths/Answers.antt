@@ -1,7 +1,7 @@
 -- `tidy::put_lengths` meets its contract. The loop's invariant: the lengths of the first i slots are stored. Assumes nothing.
 use mathlib.Core.Path.{◌≡◌, refl, sym, ap, ◌∙◌}
 use mathlib.Core.List.{List, map}
-use Prim.Native.Nat.{ℕ, suc, ◌+◌, ◌-◌, ◌*◌, ◌≤◌}
+use Prim.Native.Nat.{ℕ, suc, ◌+◌, ◌*◌}
 use native.Mathlib.Numerals.{add-one}
 use native.Mathlib.Omega.{arith}
 use lib.ListN.{length}
@@ -11,7 +11,6 @@ use Rattle.field.proofs.Laws.{put_done}
 use Rattle.bundle.specs.Content.{size_in, content_of}
 use Rattle.tidied.specs.Tidy.{first_contents}
 use Rattle.tidied.proofs.Laws.{data_up_to, lengths_stored}
-use borrow.Author.Rules.{rules}
 use Rattle.tidy.proofs.put_lengths.Goals as goal
 
 pub loop-i-init : goal.loop-i-init

@@ -1,7 +1,7 @@
 -- `tidy::put_starts` meets its contract. The loop's invariant: the starts of the first i slots are stored, and the sum is where the next one starts. Assumes nothing.
 use mathlib.Core.Path.{◌≡◌, refl, sym, ap, ◌∙◌}
 use mathlib.Core.List.{List}
-use Prim.Native.Nat.{ℕ, suc, ◌+◌, ◌-◌, ◌*◌, ◌≤◌}
+use Prim.Native.Nat.{ℕ, suc, ◌+◌, ◌*◌}
 use native.Mathlib.Numerals.{add-one}
 use native.Mathlib.Omega.{arith}
 use lib.ListN.{length}
@@ -12,7 +12,6 @@ use Rattle.bundle.specs.Content.{content_of}
 use Rattle.writer.specs.Writer.{data_of, start_for, starts_from}
 use Rattle.tidied.specs.Tidy.{first_contents}
 use Rattle.tidied.proofs.Laws.{data_none, data_grows, data_up_to, starts_stored}
-use borrow.Author.Rules.{rules}
 use Rattle.tidy.proofs.put_starts.Goals as goal
 
 pub loop-i-init : goal.loop-i-init

@@ -8,11 +8,8 @@ use Rattle.tidy.proofs.tidy.Goals as goal
 pub tidy_of-requires : goal.tidy_of-requires
 tidy_of-requires c = sym c.tidy_len.ensures.is ∙ c.in-Made.is
 
-pub shape_of-to : goal.shape_of-to
-shape_of-to c = c.to-1.given
-
 pub returns-in-Made : goal.returns-in-Made
-returns-in-Made c = tells tidy_told c.Tidy-of.ensures
+returns-in-Made c = tells tidy_told c.tidy_of.ensures
 
 pub returns-in-Refused : goal.returns-in-Refused
 returns-in-Refused c =

@@ -2,7 +2,7 @@
 use mathlib.Core.Path.{◌≡◌, sym, ap, ◌∙◌}
 use mathlib.Core.Bool.{true}
 use mathlib.Core.List.{List}
-use Prim.Native.Nat.{ℕ, ◌+◌, ◌-◌, ◌*◌, ◌≤◌}
+use Prim.Native.Nat.{ℕ, ◌+◌, ◌*◌, ◌≤◌}
 use native.Mathlib.Omega.{arith}
 use lib.ListN.{length}
 use lib.Seq.{sets}
@@ -11,7 +11,6 @@ use Rattle.bundle.proofs.Laws.{formed}
 use Rattle.writer.specs.Writer.{data_of, bundle_bytes, most_data}
 use Rattle.tidied.specs.Tidy.{first_contents, tidy_bytes, tidy_data}
 use Rattle.tidied.proofs.Laws.{length_tidy, made_of, tidy_short, tidy_stored}
-use borrow.Author.Rules.{rules}
 use Rattle.tidy.proofs.tidy_of.Goals as goal
 use Rattle.tidy.proofs.tidy_of.Goals.{After-slot_count-n}
 
