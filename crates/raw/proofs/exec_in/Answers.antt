@@ -1,5 +1,4 @@
 -- `raw::exec_in` meets its contract: by the cases. Assumes nothing.
-use borrow.Author.Rules.{rules}
 use Rattle.raw.proofs.exec_in.Goals as goal
 
 pub returns-in-Is : goal.returns-in-Is

@@ -1,7 +1,6 @@
 -- `raw::is_exec` meets its contract: by what the number names. Assumes nothing.
 use mathlib.Core.Path.{sym, ap, ◌∙◌}
 use Rattle.raw.specs.Raw.{exec_named}
-use borrow.Author.Rules.{rules}
 use Rattle.raw.proofs.is_exec.Goals as goal
 
 pub returns-in-Is : goal.returns-in-Is

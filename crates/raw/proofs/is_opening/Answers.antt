@@ -2,7 +2,6 @@
 use mathlib.Core.Path.{sym, ◌∙◌}
 use borrow.Author.Tests.{not-true, not-false}
 use Rattle.raw.proofs.Tests.{unnamed_mode, unnamed_exec, by_backend}
-use borrow.Author.Rules.{rules}
 use Rattle.raw.proofs.is_opening.Goals as goal
 
 pub returns-then-not-is_mode : goal.returns-then-not-is_mode

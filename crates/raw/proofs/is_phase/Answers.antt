@@ -2,7 +2,6 @@
 use mathlib.Core.Path.{refl, ◌∙◌}
 use Rattle.raw.proofs.Tests.{other_none}
 use Rattle.raw.specs.Raw.{is_phase}
-use borrow.Author.Rules.{rules}
 use Rattle.raw.proofs.is_phase.Goals as goal
 
 pub returns-in-0 : goal.returns-in-0

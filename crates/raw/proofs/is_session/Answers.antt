@@ -2,7 +2,6 @@
 use mathlib.Core.Path.{sym, ◌∙◌}
 use borrow.Author.Tests.{not-true, not-false}
 use Rattle.raw.proofs.Tests.{unopened, unwide, by_phase}
-use borrow.Author.Rules.{rules}
 use Rattle.raw.proofs.is_session.Goals as goal
 
 pub returns-then-not-is_opening : goal.returns-then-not-is_opening

@@ -1,7 +1,6 @@
 -- `raw::no_place` meets its contract: by the test. Assumes nothing.
 use mathlib.Core.Path.{◌∙◌}
 use borrow.Author.Tests.{eq-eqb, ne_eqb}
-use borrow.Author.Rules.{rules}
 use Rattle.raw.proofs.no_place.Goals as goal
 
 pub returns-then-r-ne0 : goal.returns-then-r-ne0

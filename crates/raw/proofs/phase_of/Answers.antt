@@ -2,7 +2,6 @@
 use mathlib.Core.Path.{refl}
 use Rattle.raw.proofs.Tests.{other_ended}
 use Rattle.raw.specs.Raw.{phase_of}
-use borrow.Author.Rules.{rules}
 use Rattle.raw.proofs.phase_of.Goals as goal
 
 pub returns-in-0 : goal.returns-in-0

@@ -1,6 +1,5 @@
 -- `raw::raw_stepped` meets its contract: part by part. Assumes nothing.
 use Rattle.raw.specs.Raw.{raw_stepped}
-use borrow.Author.Rules.{rules}
 use Rattle.raw.proofs.raw_stepped.Goals as goal
 
 pub returns : goal.returns

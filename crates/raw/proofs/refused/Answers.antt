@@ -1,5 +1,4 @@
 -- `raw::refused` meets its contract: part by part. Assumes nothing.
-use borrow.Author.Rules.{rules}
 use Rattle.raw.proofs.refused.Goals as goal
 
 pub returns : goal.returns

@@ -4,4 +4,4 @@ use Rattle.raw.proofs.session_of.Goals as goal
 
 pub returns : goal.returns
 unfolding session_of
-returns c = rw (c.phase_of-phase.ensures, c.width_of-width.ensures, c.Opening-of.ensures)
+returns c = rw (c.phase_of-phase.ensures, c.width_of-width.ensures, c.opening_of-opening.ensures)

@@ -40,19 +40,22 @@ pub put_starts-requires : goal.put_starts-requires
 put_starts-requires c =
     let a = c.args in
     let k = counted a.set.now a.to.now _ _ a.n a.size _ _ c.requires.0 c.put_u32.ensures c.put_u32-2.ensures in
-    (omega (arith, room a.set.now a.to.now a.n c.requires.0, k.2), omega arith)
+    let r = room a.set.now a.to.now a.n c.requires.0 in
+    (omega (arith, k.2), omega arith)
 
 pub put_lengths-requires : goal.put_lengths-requires
 put_lengths-requires c =
     let a = c.args in
     let k = counted a.set.now a.to.now _ _ a.n a.size _ _ c.requires.0 c.put_u32.ensures c.put_u32-2.ensures in
-    (omega (arith, room a.set.now a.to.now a.n c.requires.0, simp length-sets at (ap length c.put_starts.ensures), k.2), omega arith)
+    let r = room a.set.now a.to.now a.n c.requires.0 in
+    (omega (arith, simp length-sets at (ap length c.put_starts.ensures), k.2), omega arith)
 
 pub put_data-requires : goal.put_data-requires
 put_data-requires c =
     let a = c.args in
     let k = counted a.set.now a.to.now _ _ a.n a.size _ _ c.requires.0 c.put_u32.ensures c.put_u32-2.ensures in
-    omega (arith, room a.set.now a.to.now a.n c.requires.0, simp length-sets at (ap length c.put_lengths.ensures), simp length-sets at (ap length c.put_starts.ensures), k.2)
+    let r = room a.set.now a.to.now a.n c.requires.0 in
+    omega (arith, simp length-sets at (ap length c.put_lengths.ensures), simp length-sets at (ap length c.put_starts.ensures), k.2)
 
 pub returns : goal.returns
 returns c =
