@@ -1,2 +1,1 @@
-pub mod While
 pub mod Search

@@ -10,14 +10,13 @@ use Rattle.entry.specs.Entry.{entries_in, entry_in, entries_of}
 use Rattle.entry.specs.declared.EntryAt.{EntryAt}
 use Rattle.entry.specs.declared.RamdumpTable64.{RamdumpTable64}
 use Rattle.entry.proofs.Laws.{entry_found, length_entries}
-use Rattle.selection.proofs.Laws.{next_from, next_selected}
+use Rattle.selection.proofs.Laws.{next_from}
 use Rattle.base.proofs.Telling.{tells}
 use Rattle.forecast_sums.specs.Forecast.{forecast_chunk as chunk, forecast_told}
 use Rattle.forecast_sums.specs.Sums.{start_of, more_of, add_all, foreseen_of}
 use Rattle.forecast_sums.specs.declared.Sums.{Sums}
 use Rattle.forecast_sums.proofs.Laws.{sums_are}
-use Rattle.forecast.proofs.Search.{Searched, begins, goes_on_lem, finished}
-use borrow.Author.Rules.{rules}
+use Rattle.forecast.proofs.Search.{begins, goes_on_lem, finished}
 use Rattle.forecast.proofs.forecast_table.Goals as goal
 
 pub loop-i-init : goal.loop-i-init

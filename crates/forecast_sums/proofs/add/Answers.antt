@@ -1,5 +1,5 @@
 -- `forecast_sums::add` meets its contract: an entry that is not selected adds nothing. Assumes nothing.
-use Rattle.std.proofs.Common.{◌≡◌, true, false, sym, refl, ◌∙◌, rules}
+use Rattle.std.proofs.Common.{◌≡◌, true, false, sym, refl, ◌∙◌}
 use borrow.Author.Tests.{not-true, not-false}
 use Rattle.forecast_sums.specs.Forecast.{is_selected}
 use Rattle.forecast_sums.proofs.add.Goals as goal

@@ -1,5 +1,5 @@
 -- `forecast_sums::chunk_reads` meets its contract: the quotient by the chunk, rounded up, by arithmetic. Assumes nothing.
-use Rattle.std.proofs.Common.{arith, rules}
+use Rattle.std.proofs.Common.{arith}
 use Rattle.forecast_sums.specs.Forecast.{forecast_chunk}
 use Rattle.forecast_sums.proofs.chunk_reads.Goals as goal
 

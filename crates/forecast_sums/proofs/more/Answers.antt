@@ -1,5 +1,5 @@
 -- `forecast_sums::more` meets its contract: each sum is tested before it is made. Assumes nothing.
-use Rattle.std.proofs.Common.{◌+◌, ◌-◌, ◌^◌, refl, ◌∙◌, arith, rules, le-ltb, lt-ltb, ne_eqb}
+use Rattle.std.proofs.Common.{◌+◌, ◌-◌, ◌^◌, refl, ◌∙◌, arith, le-ltb, lt-ltb, ne_eqb}
 use Rattle.forecast_sums.proofs.more.Goals as goal
 
 pub returns-then-s-ne0 : goal.returns-then-s-ne0

@@ -1,5 +1,5 @@
 -- `forecast_sums::start` meets its contract: by what the check of the names told. Assumes nothing.
-use Rattle.std.proofs.Common.{◌≡◌, true, false, sym, refl, ◌∙◌, rules}
+use Rattle.std.proofs.Common.{◌≡◌, true, false, sym, refl, ◌∙◌}
 use Rattle.bundle.specs.Bundle.{well_formed}
 use Rattle.bundle.proofs.Laws.{checked_good, checked_refused}
 use Rattle.forecast_sums.proofs.start.Goals as goal
