@@ -1,6 +1,5 @@
 -- `raw_records::raw_entry` meets its contract: field by field. Assumes nothing.
 use mathlib.Core.Path.{refl}
-use borrow.Author.Rules.{rules}
 use Rattle.raw_records.proofs.raw_entry.Goals as goal
 
 pub returns : goal.returns

@@ -2,7 +2,6 @@
 use mathlib.Core.Path.{◌≡◌, sym, ap}
 use Rattle.forecast_sums.specs.declared.Foreseen.TheVariants as F
 use Rattle.raw_records.specs.Records.{raw_forecast}
-use borrow.Author.Rules.{rules}
 use Rattle.raw_records.proofs.raw_forecast.Goals as goal
 
 pub returns-in-Needs : goal.returns-in-Needs

@@ -2,7 +2,6 @@
 use mathlib.Core.Path.{◌≡◌, sym, ap}
 use Rattle.image.specs.declared.ImageRange.TheVariants as R
 use Rattle.raw_records.specs.Records.{raw_range}
-use borrow.Author.Rules.{rules}
 use Rattle.raw_records.proofs.raw_range.Goals as goal
 
 pub returns-in-At : goal.returns-in-At

@@ -2,7 +2,6 @@
 use mathlib.Core.Path.{◌≡◌, sym, ap}
 use Rattle.sheet.specs.declared.Sheet.TheVariants as S
 use Rattle.raw_records.specs.Records.{raw_sheet}
-use borrow.Author.Rules.{rules}
 use Rattle.raw_records.proofs.raw_sheet.Goals as goal
 
 pub returns-in-Made : goal.returns-in-Made

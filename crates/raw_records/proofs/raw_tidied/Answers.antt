@@ -2,7 +2,6 @@
 use mathlib.Core.Path.{◌≡◌, sym, ap}
 use Rattle.tidied.specs.declared.Tidied.TheVariants as Y
 use Rattle.raw_records.specs.Records.{raw_tidied}
-use borrow.Author.Rules.{rules}
 use Rattle.raw_records.proofs.raw_tidied.Goals as goal
 
 pub returns-in-Made : goal.returns-in-Made
