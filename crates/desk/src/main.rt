@@ -1,83 +1,93 @@
 // Reads standard input as deliveries of 4,096 bytes, each used up before the next is read, and prints a line a step: bytes taken, answer, number.
 #![tactic(auto)]
 
-ghost use Rattle.std.specs.Prelude.{◌≡◌, ◌≤◌, length};
+ghost use Rattle.std.specs.Prelude.{◌≡◌, ◌≤◌, length, IfOk};
 
 use command::SaharaMode;
 use feed::{Feed, Turned};
 use session::{Answer, Session};
+use std::io;
+use std::io::Read;
 use verdict::{ExecCommand, QdlBackend};
 
-// A line; true.
-fn line(taken: usize, word: &[u8], number: u64) -> bool {
-    io::print_decimal(1, taken as u64);
-    io::write_all(1, word);
-    io::print_decimal(1, number);
-    io::write_all(1, b"\n");
-    true
+// A line.
+fn line(rt: &impl Print, taken: usize, word: &str, number: u64) -> io::Result<()> {
+    println!(rt; "{taken} {word} {number}")
 }
 
 // Prints a step; true where the session goes on.
-fn told(taken: usize, a: Answer) -> bool {
+fn told(rt: &impl Print, taken: usize, a: Answer) -> io::Result<bool> {
     let n = answers::first_value(a);
-    match a {
-        Answer::Go => line(taken, b" go ", n),
-        Answer::Send(_) => line(taken, b" send ", n),
-        Answer::Image(_, _) => line(taken, b" image ", n),
-        Answer::Open(_) => line(taken, b" open ", n),
-        Answer::Bytes(_) => line(taken, b" bytes ", n),
-        Answer::EmptyRead => line(taken, b" empty read ", n),
-        Answer::Close(_) => line(taken, b" close ", n),
-        Answer::Finished(_, _) => {
-            line(taken, b" finished ", n);
-            false
+    let (word, more) = match a {
+        Answer::Go => ("go", true),
+        Answer::Send(_) => ("send", true),
+        Answer::Image(_, _) => ("image", true),
+        Answer::Open(_) => ("open", true),
+        Answer::Bytes(_) => ("bytes", true),
+        Answer::EmptyRead => ("empty read", true),
+        Answer::Close(_) => ("close", true),
+        Answer::Finished(_, _) => ("finished", false),
+        Answer::Refused(_) => ("refused", false),
+    };
+    line(rt, taken, word, n)?;
+    Ok(more)
+}
+
+// Reads until the buffer is full or the input ends: how many bytes it put at the front.
+fn read_full<R: Read>(input: &mut R, buf: &mut [u8]) -> io::Result<usize>
+    ensures { IfOk result (λ n. n ≤ length buf.new) }
+{
+    let mut done = 0;
+    while done < buf.len() {
+        let n = input.read(&mut buf[done..])?;
+        if n == 0 {
+            break;
         }
-        Answer::Refused(_) => {
-            line(taken, b" refused ", n);
-            false
-        }
+        done += n;
     }
+    Ok(done)
 }
 
 // The next delivery, where this one is used up.
-fn refill(delivery: &mut [u8], f: Feed) -> Feed
+fn refill<R: Read>(input: &mut R, delivery: &mut [u8], f: Feed) -> io::Result<Feed>
     requires { (f.from ≤ f.to) × (f.to ≤ length delivery.old) }
-    ensures { (result.from ≤ result.to) × (result.to ≤ length delivery.new) }
+    ensures { IfOk result (λ r. (r.from ≤ r.to) × (r.to ≤ length delivery.new)) }
 {
     if !feed::is_due(f) {
-        return f;
+        return Ok(f);
     }
-    let n = io::read_full(0, delivery);
-    Feed {
+    let n = read_full(input, delivery)?;
+    Ok(Feed {
         from: 0,
         to: n,
         over: n == 0,
-    }
+    })
 }
 
-fn closed(s: Session, f: Feed) -> Turned
-    ensures { (result.feed.from ≡ f.from) × (result.feed.to ≡ f.to) }
+fn closed(rt: &impl Print, s: Session, f: Feed) -> io::Result<Turned>
+    ensures { IfOk result (λ r. (r.feed.from ≡ f.from) × (r.feed.to ≡ f.to)) }
 {
     let r = host::closed(s);
     let a = r.answer;
-    told(0, a);
-    Turned {
+    told(rt, 0, a)?;
+    Ok(Turned {
         session: s,
         feed: f,
         more: false,
-    }
+    })
 }
 
 fn turn(
+    rt: &impl Print,
     s: Session,
     f: Feed,
     delivery: &[u8],
     table: &mut [u8],
     reply: &mut [u8],
     out: &mut [u8],
-) -> Turned
+) -> io::Result<Turned>
     requires { (f.from ≤ f.to) × (f.to ≤ length delivery.now) }
-    ensures { (result.feed.from ≤ result.feed.to) × (result.feed.to ≡ f.to) }
+    ensures { IfOk result (λ r. (r.feed.from ≤ r.feed.to) × (r.feed.to ≡ f.to)) }
 {
     let from = f.from;
     let to = f.to;
@@ -86,56 +96,71 @@ fn turn(
     let next = r.session;
     let a = r.answer;
     let left = feed::left_after(f, r.taken);
-    let more = told(r.taken, a);
-    Turned {
+    let more = told(rt, r.taken, a)?;
+    Ok(Turned {
         session: next,
         feed: left,
         more: more,
-    }
+    })
 }
 
 // The step, unless the input is over and it would wait.
 fn turn_or_close(
+    rt: &impl Print,
     s: Session,
     f: Feed,
     delivery: &[u8],
     table: &mut [u8],
     reply: &mut [u8],
     out: &mut [u8],
-) -> Turned
+) -> io::Result<Turned>
     requires { (f.from ≤ f.to) × (f.to ≤ length delivery.now) }
-    ensures { (result.feed.from ≤ result.feed.to) × (result.feed.to ≡ f.to) }
+    ensures { IfOk result (λ r. (r.feed.from ≤ r.feed.to) × (r.feed.to ≡ f.to)) }
 {
     if feed::closes(f, s) {
-        return closed(s, f);
+        return closed(rt, s, f);
     }
-    turn(s, f, delivery, table, reply, out)
+    turn(rt, s, f, delivery, table, reply, out)
 }
 
-fn run(delivery: &mut [u8], table: &mut [u8], reply: &mut [u8], out: &mut [u8]) {
+fn run<R: Read>(
+    rt: &impl Print,
+    input: &mut R,
+    delivery: &mut [u8],
+    table: &mut [u8],
+    reply: &mut [u8],
+    out: &mut [u8],
+) -> io::Result<()> {
     let mut s = host::open(
         SaharaMode::WaitingForImage,
         ExecCommand::None,
         QdlBackend::Serial,
     );
     let mut f = feed::begin();
-    let mut turns: u64 = 0;
-    while turns < 18446744073709551615 {
-        turns += 1;
-        let fed = refill(delivery, f);
-        let t = turn_or_close(s, fed, delivery, table, reply, out);
+    for _ in 0..u64::MAX {
+        let fed = refill(input, delivery, f)?;
+        let t = turn_or_close(rt, s, fed, delivery, table, reply, out)?;
         if !t.more {
-            return;
+            return Ok(());
         }
         f = t.feed;
         s = t.session;
     }
+    Ok(())
 }
 
-fn main() {
+fn main(rt: HostRuntime) -> io::Result<()> {
+    let mut input = rt.stdin();
     let mut delivery = [0u8; 4096];
     let mut table = [0u8; 65536];
     let mut reply = [0u8; 4096];
     let mut out = [0u8; 48];
-    run(&mut delivery, &mut table, &mut reply, &mut out);
+    run(
+        &rt,
+        &mut input,
+        &mut delivery,
+        &mut table,
+        &mut reply,
+        &mut out,
+    )
 }
