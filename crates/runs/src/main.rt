@@ -5,13 +5,15 @@
 // of 8 bytes (phase, width, memory reads; count, at, base, len, done, outstanding, due, as they cross to C) and the window.
 #![tactic(auto)]
 
-ghost use Rattle.std.specs.Prelude.{◌≡◌, ◌+◌, ◌≤◌, ◌<◌, length};
+ghost use Rattle.std.specs.Prelude.{◌≡◌, ◌+◌, ◌≤◌, ◌<◌, length, IfOk};
 ghost use Rattle.runs.specs.Case.{Placed};
 
 use command::{CommandOf, ModeOf, SaharaMode};
 use feed::{Feed, Turned};
 use field::Width;
 use session::{Answer, Filling, Phase, Region, Session};
+use std::io;
+use std::io::{BufWriter, Read, Write};
 use verdict::{ExecCommand, QdlBackend};
 
 // What the words say; the session begins at 0, each other part where the one before it ends.
@@ -144,10 +146,8 @@ fn byte_or_zero(s: &[u8], i: usize) -> u8 {
 
 // The bytes of s, and zeros behind them.
 fn fill(d: &mut [u8], s: &[u8]) {
-    let mut i: usize = 0;
-    while i < d.len() {
-        d[i] = byte_or_zero(s, i);
-        i += 1;
+    for (i, b) in d.iter_mut().enumerate() {
+        *b = byte_or_zero(s, i);
     }
 }
 
@@ -192,115 +192,91 @@ fn digit(n: u8) -> u8 {
     b'?'
 }
 
-fn print_hex(s: &[u8]) {
-    let mut i: usize = 0;
-    while i < s.len() {
-        let b = s[i];
-        let two = [digit(b / 16), digit(b % 16)];
-        io::write_all(1, &two);
-        i += 1;
+fn print_hex<W: Write>(to: &mut W, s: &[u8]) -> io::Result<()> {
+    for b in s {
+        to.write_all(&[digit(*b / 16), digit(*b % 16)])?;
     }
+    Ok(())
 }
 
-fn line(taken: usize, word: &[u8], number: u64) {
-    io::print_decimal(1, taken as u64);
-    io::write_all(1, word);
-    io::print_decimal(1, number);
+fn line<W: Write>(to: &mut W, taken: usize, word: &str, number: u64) -> io::Result<()> {
+    write!(to, "{taken} {word} {number}")
 }
 
-fn detail(s: &[u8]) {
+fn detail<W: Write>(to: &mut W, s: &[u8]) -> io::Result<()> {
     if s.len() == 0 {
-        return;
+        return Ok(());
     }
-    io::write_all(1, b" ");
-    print_hex(s);
+    to.write_all(b" ")?;
+    print_hex(to, s)
 }
 
-fn first(s: &[u8], n: usize) {
+fn first<W: Write>(to: &mut W, s: &[u8], n: usize) -> io::Result<()> {
     let k = least(n, s.len());
-    detail(&s[..k]);
+    detail(to, &s[..k])
 }
 
-fn image(taken: usize, set: &[u8], start: usize, k: usize) {
-    line(taken, b" image ", k as u64);
-    io::write_all(1, b" ");
-    io::print_decimal(1, start as u64);
+fn image<W: Write>(to: &mut W, taken: usize, set: &[u8], start: usize, k: usize) -> io::Result<()> {
+    line(to, taken, "image", k as u64)?;
+    number(to, start as u64)?;
     if start <= set.len() {
-        first(&set[start..], k);
+        first(to, &set[start..], k)?;
     }
+    Ok(())
 }
 
-fn finished(taken: usize, how: u8, reads: u64) {
-    line(taken, b" finished ", how as u64);
-    io::write_all(1, b" ");
-    io::print_decimal(1, reads);
+fn finished<W: Write>(to: &mut W, taken: usize, how: u8, reads: u64) -> io::Result<()> {
+    line(to, taken, "finished", how as u64)?;
+    number(to, reads)
 }
 
 // Prints a step; true where the session goes on.
-fn told(taken: usize, a: Answer, set: &[u8], out: &[u8]) -> bool {
+fn told<W: Write>(to: &mut W, taken: usize, a: Answer, set: &[u8], out: &[u8]) -> io::Result<bool> {
     match a {
-        Answer::Go => {
-            line(taken, b" go ", 0);
-            true
-        }
+        Answer::Go => line(to, taken, "go", 0)?,
         Answer::Send(k) => {
-            line(taken, b" send ", k as u64);
-            first(out, k);
-            true
+            line(to, taken, "send", k as u64)?;
+            first(to, out, k)?;
         }
-        Answer::Image(start, k) => {
-            image(taken, set, start, k);
-            true
-        }
-        Answer::Open(i) => {
-            line(taken, b" open ", i as u64);
-            true
-        }
-        Answer::Bytes(k) => {
-            line(taken, b" bytes ", k as u64);
-            true
-        }
-        Answer::EmptyRead => {
-            line(taken, b" empty read ", 0);
-            true
-        }
-        Answer::Close(i) => {
-            line(taken, b" close ", i as u64);
-            true
-        }
+        Answer::Image(start, k) => image(to, taken, set, start, k)?,
+        Answer::Open(i) => line(to, taken, "open", i as u64)?,
+        Answer::Bytes(k) => line(to, taken, "bytes", k as u64)?,
+        Answer::EmptyRead => line(to, taken, "empty read", 0)?,
+        Answer::Close(i) => line(to, taken, "close", i as u64)?,
         Answer::Finished(how, reads) => {
-            finished(taken, how, reads);
-            false
+            finished(to, taken, how, reads)?;
+            return Ok(false);
         }
         Answer::Refused(why) => {
-            line(taken, b" refused ", why as u64);
-            false
+            line(to, taken, "refused", why as u64)?;
+            return Ok(false);
         }
     }
+    Ok(true)
 }
 
 // The reply of a session that finished (4).
-fn replied(a: Answer, p: Phase, reply: &[u8]) {
+fn replied<W: Write>(to: &mut W, a: Answer, p: Phase, reply: &[u8]) -> io::Result<()> {
     if let Answer::Finished(how, _) = a {
         if how != 4 {
-            return;
+            return Ok(());
         }
     } else {
-        return;
+        return Ok(());
     }
     if let Phase::Ended(k) = p {
-        io::write_all(1, b"reply");
+        to.write_all(b"reply")?;
         if k == 0 {
-            io::write_all(1, b" -");
+            to.write_all(b" -")?;
         }
-        first(reply, k);
-        io::write_all(1, b"\n");
+        first(to, reply, k)?;
+        to.write_all(b"\n")?;
     }
+    Ok(())
 }
 
-fn number(n: u64) {
-    io::write_all(1, b" ");
-    io::print_decimal(1, n);
+fn number<W: Write>(to: &mut W, n: u64) -> io::Result<()> {
+    write!(to, " {n}")
 }
 
 fn bits(w: Width) -> u64 {
@@ -310,43 +286,59 @@ fn bits(w: Width) -> u64 {
     }
 }
 
-fn counts(phase: u64, w: Width, reads: u64, count: usize, at: usize) {
-    io::write_all(1, b"session");
-    number(phase);
-    number(bits(w));
-    number(reads);
-    number(count as u64);
-    number(at as u64);
+fn counts<W: Write>(
+    to: &mut W,
+    phase: u64,
+    w: Width,
+    reads: u64,
+    count: usize,
+    at: usize,
+) -> io::Result<()> {
+    let width = bits(w);
+    write!(to, "session {phase} {width} {reads} {count} {at}")
 }
 
-fn told_counts(phase: u64, w: Width, reads: u64, count: usize, at: usize) {
-    counts(phase, w, reads, count, at);
-    io::write_all(1, b" 0 0 0 0 0\n");
+fn told_counts<W: Write>(
+    to: &mut W,
+    phase: u64,
+    w: Width,
+    reads: u64,
+    count: usize,
+    at: usize,
+) -> io::Result<()> {
+    counts(to, phase, w, reads, count, at)?;
+    to.write_all(b" 0 0 0 0 0\n")
 }
 
-fn told_region(w: Width, reads: u64, count: usize, x: Region) {
-    counts(5, w, reads, count, x.entry);
-    number(x.base);
-    number(x.len);
-    number(x.done);
-    number(x.outstanding);
-    number(if x.due { 1 } else { 0 });
-    io::write_all(1, b"\n");
+fn told_region<W: Write>(
+    to: &mut W,
+    w: Width,
+    reads: u64,
+    count: usize,
+    x: Region,
+) -> io::Result<()> {
+    counts(to, 5, w, reads, count, x.entry)?;
+    number(to, x.base)?;
+    number(to, x.len)?;
+    number(to, x.done)?;
+    number(to, x.outstanding)?;
+    number(to, if x.due { 1 } else { 0 })?;
+    to.write_all(b"\n")
 }
 
 // A session as numbers; those that its phase does not use are 0.
-fn told_session(s: Session) {
+fn told_session<W: Write>(to: &mut W, s: Session) -> io::Result<()> {
     let w = s.width;
     let reads = s.reads;
     let p = s.phase;
     match p {
-        Phase::Packet(k) => told_counts(0, w, reads, k, 0),
-        Phase::Response(x) => told_counts(1, w, reads, x.declared, x.filled),
-        Phase::Switched(k) => told_counts(2, w, reads, k, 0),
-        Phase::Table(x) => told_counts(3, w, reads, x.declared, x.filled),
-        Phase::Between(k, i) => told_counts(4, w, reads, k, i),
-        Phase::Region(k, x) => told_region(w, reads, k, x),
-        Phase::Ended(k) => told_counts(6, w, reads, k, 0),
+        Phase::Packet(k) => told_counts(to, 0, w, reads, k, 0),
+        Phase::Response(x) => told_counts(to, 1, w, reads, x.declared, x.filled),
+        Phase::Switched(k) => told_counts(to, 2, w, reads, k, 0),
+        Phase::Table(x) => told_counts(to, 3, w, reads, x.declared, x.filled),
+        Phase::Between(k, i) => told_counts(to, 4, w, reads, k, i),
+        Phase::Region(k, x) => told_region(to, w, reads, k, x),
+        Phase::Ended(k) => told_counts(to, 6, w, reads, k, 0),
     }
 }
 
@@ -366,22 +358,23 @@ fn refill(f: Feed, size: usize, end: usize) -> Feed
     }
 }
 
-fn closed(s: Session, f: Feed) -> Turned
-    ensures { (result.feed.from ≡ f.from) × (result.feed.to ≡ f.to) }
+fn closed<W: Write>(to: &mut W, s: Session, f: Feed) -> io::Result<Turned>
+    ensures { IfOk result (λ r. (r.feed.from ≡ f.from) × (r.feed.to ≡ f.to)) }
 {
     let r = host::closed(s);
     let next = r.session;
     let a = r.answer;
-    told(0, a, b"", b"");
-    io::write_all(1, b"\n");
-    Turned {
+    told(to, 0, a, b"", b"")?;
+    to.write_all(b"\n")?;
+    Ok(Turned {
         session: next,
         feed: f,
         more: false,
-    }
+    })
 }
 
-fn turn(
+fn turn<W: Write>(
+    to: &mut W,
     s: Session,
     f: Feed,
     delivery: &[u8],
@@ -390,27 +383,28 @@ fn turn(
     table: &mut [u8],
     reply: &mut [u8],
     out: &mut [u8],
-) -> Turned
+) -> io::Result<Turned>
     requires { f.from ≤ f.to }
-    ensures { (result.feed.from ≤ result.feed.to) × (result.feed.to ≡ f.to) }
+    ensures { IfOk result (λ r. (r.feed.from ≤ r.feed.to) × (r.feed.to ≡ f.to)) }
 {
     let r = host::step(s, delivery, set, names, table, reply, out);
     let next = r.session;
     let a = r.answer;
     let p = next.phase;
     let left = feed::left_after(f, r.taken);
-    let more = told(r.taken, a, set, out);
-    io::write_all(1, b"\n");
-    replied(a, p, reply);
-    Turned {
+    let more = told(to, r.taken, a, set, out)?;
+    to.write_all(b"\n")?;
+    replied(to, a, p, reply)?;
+    Ok(Turned {
         session: next,
         feed: left,
         more: more,
-    }
+    })
 }
 
 // The step, unless the device's bytes are over and it would wait.
-fn turn_or_close(
+fn turn_or_close<W: Write>(
+    to: &mut W,
     s: Session,
     f: Feed,
     delivery: &[u8],
@@ -419,18 +413,19 @@ fn turn_or_close(
     table: &mut [u8],
     reply: &mut [u8],
     out: &mut [u8],
-) -> Turned
+) -> io::Result<Turned>
     requires { f.from ≤ f.to }
-    ensures { (result.feed.from ≤ result.feed.to) × (result.feed.to ≡ f.to) }
+    ensures { IfOk result (λ r. (r.feed.from ≤ r.feed.to) × (r.feed.to ≡ f.to)) }
 {
     if feed::closes(f, s) {
-        return closed(s, f);
+        return closed(to, s, f);
     }
-    turn(s, f, delivery, set, names, table, reply, out)
+    turn(to, s, f, delivery, set, names, table, reply, out)
 }
 
 // One conversation: deliveries of at most `size` of the device's bytes. The session at its end.
-fn run(
+fn run<W: Write>(
+    to: &mut W,
     first: Session,
     size: usize,
     feed: &[u8],
@@ -439,27 +434,25 @@ fn run(
     table: &mut [u8],
     reply: &mut [u8],
     out: &mut [u8],
-) -> Session {
+) -> io::Result<Session> {
     let mut s = first;
     let mut f = feed::begin();
-    let mut turns: u64 = 0;
-    while turns < 1000000000 {
-        turns += 1;
+    for _ in 0..1000000000 {
         let fed = refill(f, size, feed.len());
-        let from = fed.from;
-        let to = fed.to;
-        let t = turn_or_close(s, fed, &feed[from..to], set, names, table, reply, out);
+        let delivery = &feed[fed.from..fed.to];
+        let t = turn_or_close(to, s, fed, delivery, set, names, table, reply, out)?;
         s = t.session;
         if !t.more {
-            return s;
+            return Ok(s);
         }
         f = t.feed;
     }
-    s
+    Ok(s)
 }
 
 // One conversation. The session is told at its end where the case has one.
-fn play(
+fn play<W: Write>(
+    to: &mut W,
     opened: Session,
     size: usize,
     session: &[u8],
@@ -470,20 +463,27 @@ fn play(
     table: &mut [u8],
     reply: &mut [u8],
     out: &mut [u8],
-) {
+) -> io::Result<()> {
     if session.len() == 0 {
-        run(opened, size, feed, set, names, table, reply, out);
-        return;
+        run(to, opened, size, feed, set, names, table, reply, out)?;
+        return Ok(());
     }
     fill(table, lent);
     fill(reply, lent);
     let s = session_for(opened, session);
-    let last = run(s, size, feed, set, names, table, reply, out);
-    told_session(last);
+    let last = run(to, s, size, feed, set, names, table, reply, out)?;
+    told_session(to, last)
 }
 
 // One conversation, with buffers of the sizes that it asks for.
-fn replay(input: &[u8], c: Case, table: &mut [u8], reply: &mut [u8], out: &mut [u8])
+fn replay<W: Write>(
+    to: &mut W,
+    input: &[u8],
+    c: Case,
+    table: &mut [u8],
+    reply: &mut [u8],
+    out: &mut [u8],
+) -> io::Result<()>
     requires { Placed c.lent c.set c.names c.feed c.end (length input.now) }
 {
     let t = least(c.table, table.len());
@@ -495,6 +495,7 @@ fn replay(input: &[u8], c: Case, table: &mut [u8], reply: &mut [u8], out: &mut [
     let feed = c.feed;
     let end = c.end;
     play(
+        to,
         open_for(c),
         c.size,
         &input[..lent],
@@ -505,53 +506,83 @@ fn replay(input: &[u8], c: Case, table: &mut [u8], reply: &mut [u8], out: &mut [
         &mut table[..t],
         &mut reply[..y],
         &mut out[..o],
-    );
+    )
 }
 
 // An empty line between two cases.
-fn gap(cases: u64) {
+fn gap<W: Write>(to: &mut W, cases: u64) -> io::Result<()> {
     if 0 < cases {
-        io::write_all(1, b"\n");
+        to.write_all(b"\n")?;
     }
+    Ok(())
+}
+
+// Reads until the buffer is full or the input ends: how many bytes it put at the front.
+fn read_full<R: Read>(from: &mut R, buf: &mut [u8]) -> io::Result<usize>
+    ensures { IfOk result (λ n. n ≤ length buf.new) }
+{
+    let mut done = 0;
+    while done < buf.len() {
+        let n = from.read(&mut buf[done..])?;
+        if n == 0 {
+            break;
+        }
+        done += n;
+    }
+    Ok(done)
 }
 
 // The next case: its words are read, then its parts. False where there is none.
-fn next(
+fn next<R: Read, W: Write>(
+    from: &mut R,
+    to: &mut W,
     cases: u64,
     words: &mut [u8],
     input: &mut [u8],
     table: &mut [u8],
     reply: &mut [u8],
     out: &mut [u8],
-) -> bool {
-    if io::read_full(0, words) < words.len() {
-        return false;
+) -> io::Result<bool> {
+    if read_full(from, words)? < words.len() {
+        return Ok(false);
     }
-    gap(cases);
+    gap(to, cases)?;
     let c = case_of(words, input.len());
     let end = c.end;
-    if io::read_full(0, &mut input[..end]) < end {
-        return false;
+    if read_full(from, &mut input[..end])? < end {
+        return Ok(false);
     }
-    replay(input, c, table, reply, out);
-    true
+    replay(to, input, c, table, reply, out)?;
+    to.flush()?;
+    Ok(true)
 }
 
-fn all(words: &mut [u8], input: &mut [u8], table: &mut [u8], reply: &mut [u8], out: &mut [u8]) {
-    let mut cases: u64 = 0;
-    while cases < 1000000000 {
-        if !next(cases, words, input, table, reply, out) {
-            return;
+fn all<R: Read, W: Write>(
+    from: &mut R,
+    to: &mut W,
+    words: &mut [u8],
+    input: &mut [u8],
+    table: &mut [u8],
+    reply: &mut [u8],
+    out: &mut [u8],
+) -> io::Result<()> {
+    for cases in 0..1000000000 {
+        if !next(from, to, cases, words, input, table, reply, out)? {
+            break;
         }
-        cases += 1;
     }
+    to.flush()
 }
 
-fn main() {
+fn main(rt: HostRuntime) -> io::Result<()> {
+    let mut from = rt.stdin();
+    let mut to = BufWriter::new(rt.alloc(), rt.stdout())?;
     let mut words = [0u8; 48];
     let mut input = [0u8; 131072];
     let mut table = [0u8; 65536];
     let mut reply = [0u8; 8192];
     let mut out = [0u8; 64];
-    all(&mut words, &mut input, &mut table, &mut reply, &mut out);
+    all(
+        &mut from, &mut to, &mut words, &mut input, &mut table, &mut reply, &mut out,
+    )
 }
