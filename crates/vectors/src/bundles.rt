@@ -2,74 +2,75 @@
 use crate::{show, text};
 use bundle::{Checked, check_images, check_names};
 use image::{ImageId, ImageRange, image_range};
+use std::io;
+use std::io::Write;
 use tidied::Tidied;
 use tidy::{tidy, tidy_len};
 
-fn checked(c: Checked) {
+fn checked<W: Write>(to: &mut W, c: Checked) -> io::Result<()> {
     match c {
-        Checked::Good => show::good(),
-        Checked::Refused(k) => show::refused(k),
+        Checked::Good => show::good(to),
+        Checked::Refused(k) => show::refused(to, k),
     }
 }
 
 // s BYTES
-pub(crate) fn images(line: &[u8]) {
+pub(crate) fn images<W: Write>(to: &mut W, line: &[u8]) -> io::Result<()> {
     let mut set = [0u8; 1024];
     let n = text::bytes(line, 1, &mut set);
-    checked(check_images(&set[..n]));
+    checked(to, check_images(&set[..n]))
 }
 
 // n BYTES
-pub(crate) fn names(line: &[u8]) {
+pub(crate) fn names<W: Write>(to: &mut W, line: &[u8]) -> io::Result<()> {
     let mut names = [0u8; 1024];
     let n = text::bytes(line, 1, &mut names);
-    checked(check_names(&names[..n]));
+    checked(to, check_names(&names[..n]))
 }
 
-fn at(start: usize, len: usize) {
-    show::text(b"at ");
-    show::number(start);
-    show::text(b" ");
-    show::number(len);
+fn at<W: Write>(to: &mut W, start: usize, len: usize) -> io::Result<()> {
+    show::text(to, b"at ")?;
+    show::number(to, start)?;
+    show::text(to, b" ")?;
+    show::number(to, len)
 }
 
 // i SET ID OFFSET LENGTH
-pub(crate) fn range(line: &[u8]) {
+pub(crate) fn range<W: Write>(to: &mut W, line: &[u8]) -> io::Result<()> {
     let mut set = [0u8; 1024];
     let n = text::bytes(line, 1, &mut set);
     let id = ImageId(text::long(line, 2));
     let offset = text::long(line, 3);
     let len = text::long(line, 4);
     match image_range(&set[..n], id, offset, len) {
-        ImageRange::At(start, count) => at(start, count),
-        ImageRange::Refused(k) => show::refused(k),
+        ImageRange::At(start, count) => at(to, start, count),
+        ImageRange::Refused(k) => show::refused(to, k),
     }
 }
 
-fn tidied(t: Tidied) {
+fn tidied<W: Write>(to: &mut W, t: Tidied) -> io::Result<()> {
     match t {
-        Tidied::Made(k) => show::number(k),
-        Tidied::Refused(why) => show::refused(why),
+        Tidied::Made(k) => show::number(to, k),
+        Tidied::Refused(why) => show::refused(to, why),
     }
 }
 
-fn tidy_into(set: &[u8], to: &mut [u8]) {
-    tidied(tidy_len(set));
-    show::text(b" ");
-    tidied(tidy(set, to));
-    show::text(b" ");
-    show::bytes(to);
+fn tidy_into<W: Write>(to: &mut W, set: &[u8], form: &mut [u8]) -> io::Result<()> {
+    tidied(to, tidy_len(set))?;
+    show::text(to, b" ")?;
+    tidied(to, tidy(set, form))?;
+    show::text(to, b" ")?;
+    show::bytes(to, form)
 }
 
 // z SET SIZE: how long the tidy form is, then it in a buffer of SIZE bytes of 0xAA, and the whole buffer afterwards.
-pub(crate) fn tidy_case(line: &[u8]) {
+pub(crate) fn tidy_case<W: Write>(to: &mut W, line: &[u8]) -> io::Result<()> {
     let mut set = [0u8; 1024];
     let n = text::bytes(line, 1, &mut set);
-    let mut to = [0xAAu8; 1024];
+    let mut form = [0xAAu8; 1024];
     let size = text::index(line, 2);
     if 1024 < size {
-        show::nothing();
-        return;
+        return show::nothing(to);
     }
-    tidy_into(&set[..n], &mut to[..size]);
+    tidy_into(to, &set[..n], &mut form[..size])
 }

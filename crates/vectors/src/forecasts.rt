@@ -4,26 +4,28 @@ use entry::{RamdumpTable64, entry_at};
 use field::Width;
 use forecast::{forecast_of, forecast_table};
 use forecast_sums::Foreseen;
+use std::io;
+use std::io::Write;
 
-fn foreseen(f: Foreseen) {
+fn foreseen<W: Write>(to: &mut W, f: Foreseen) -> io::Result<()> {
     match f {
         Foreseen::Needs(regions, bytes, reads) => {
-            show::text(b"needs");
-            show::long(regions);
-            show::two_longs(bytes, reads);
+            show::text(to, b"needs")?;
+            show::long(to, regions)?;
+            show::two_longs(to, bytes, reads)
         }
-        Foreseen::Refused(why) => show::refused(why),
+        Foreseen::Refused(why) => show::refused(to, why),
     }
 }
 
 // f WIDTH TABLE NAMES
-pub(crate) fn of_table(line: &[u8]) {
+pub(crate) fn of_table<W: Write>(to: &mut W, line: &[u8]) -> io::Result<()> {
     let mut table = [0u8; 640];
     let mut names = [0u8; 640];
     let n = text::bytes(line, 2, &mut table);
     let m = text::bytes(line, 3, &mut names);
     let width = regions::width(line);
-    foreseen(forecast_table(&table[..n], width, &names[..m]));
+    foreseen(to, forecast_table(&table[..n], width, &names[..m]))
 }
 
 // The first eight entries of a table; one that it does not have is zeros.
@@ -31,18 +33,15 @@ fn eight(table: &[u8], width: Width) -> [RamdumpTable64; 8] {
     let missing = entry::no_entry();
     let none = missing.entry;
     let mut entries = [none; 8];
-    let mut i: usize = 0;
-    while i < 8 {
+    for i in 0..8 {
         let found = entry_at(table, width, i);
-        let e = found.entry;
-        entries[i] = e;
-        i += 1;
+        entries[i] = found.entry;
     }
     entries
 }
 
 // g WIDTH TABLE NAMES N: of the first N of eight entries, lent as a list.
-pub(crate) fn of_list(line: &[u8]) {
+pub(crate) fn of_list<W: Write>(to: &mut W, line: &[u8]) -> io::Result<()> {
     let mut table = [0u8; 640];
     let mut names = [0u8; 640];
     let n = text::bytes(line, 2, &mut table);
@@ -50,5 +49,5 @@ pub(crate) fn of_list(line: &[u8]) {
     let width = regions::width(line);
     let entries = eight(&table[..n], width);
     let k = text::index(line, 4);
-    foreseen(forecast_of(entries, k, &names[..m]));
+    foreseen(to, forecast_of(entries, k, &names[..m]))
 }

@@ -9,54 +9,61 @@ mod regions;
 mod show;
 mod text;
 
-fn packet_case(letter: u8, line: &[u8]) {
+use std::io;
+use std::io::{BufWriter, Read, Write};
+
+fn packet_case<W: Write>(to: &mut W, letter: u8, line: &[u8]) -> io::Result<()> {
     match letter {
-        b'd' => packets::decode(line),
-        b'l' => packets::length(line),
-        b'b' => packets::build_case(line),
-        b's' => bundles::images(line),
-        b'n' => bundles::names(line),
-        b'i' => bundles::range(line),
-        b'z' => bundles::tidy_case(line),
-        b'#' => show::text(line),
-        _ => region_case(letter, line),
+        b'd' => packets::decode(to, line),
+        b'l' => packets::length(to, line),
+        b'b' => packets::build_case(to, line),
+        b's' => bundles::images(to, line),
+        b'n' => bundles::names(to, line),
+        b'i' => bundles::range(to, line),
+        b'z' => bundles::tidy_case(to, line),
+        b'#' => show::text(to, line),
+        _ => region_case(to, letter, line),
     }
 }
 
-fn region_case(letter: u8, line: &[u8]) {
+fn region_case<W: Write>(to: &mut W, letter: u8, line: &[u8]) -> io::Result<()> {
     match letter {
-        b'u' => regions::utf8_valid(line),
-        b't' => regions::stem(line),
-        b'o' => regions::opening(line),
-        b'p' => regions::opened(line),
-        b'e' => regions::decode_entry(line),
-        b'x' => regions::selected(line),
-        b'y' => regions::next(line),
-        b'r' => regions::sheet(line),
-        b'f' => forecasts::of_table(line),
-        b'g' => forecasts::of_list(line),
-        _ => show::nothing(),
+        b'u' => regions::utf8_valid(to, line),
+        b't' => regions::stem(to, line),
+        b'o' => regions::opening(to, line),
+        b'p' => regions::opened(to, line),
+        b'e' => regions::decode_entry(to, line),
+        b'x' => regions::selected(to, line),
+        b'y' => regions::next(to, line),
+        b'r' => regions::sheet(to, line),
+        b'f' => forecasts::of_table(to, line),
+        b'g' => forecasts::of_list(to, line),
+        _ => show::nothing(to),
     }
 }
 
-fn case(line: &[u8]) {
+fn case<W: Write>(to: &mut W, line: &[u8]) -> io::Result<()> {
     if 0 < line.len() {
-        packet_case(line[0], line);
+        packet_case(to, line[0], line)?;
     }
-    show::line_end();
+    show::line_end(to)
 }
 
-fn cases(s: &[u8]) {
+fn cases<W: Write>(to: &mut W, s: &[u8]) -> io::Result<()> {
     let mut at: usize = 0;
     while at < s.len() {
         let e = text::find(s, at, b'\n');
-        case(&s[at..e]);
+        case(to, &s[at..e])?;
         at = e + 1;
     }
+    Ok(())
 }
 
-fn main() {
-    let mut input = [0u8; 524288];
-    let n = io::read_full(0, &mut input);
-    cases(&input[..n]);
+// The first 512 KiB of the input are read.
+fn main(rt: HostRuntime) -> io::Result<()> {
+    let mut input = Vec::new(rt.alloc());
+    rt.stdin().take(524288).read_to_end(&mut input)?;
+    let mut to = BufWriter::new(rt.alloc(), rt.stdout())?;
+    cases(&mut to, input.as_slice())?;
+    to.flush()
 }

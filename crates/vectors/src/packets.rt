@@ -9,6 +9,8 @@ use packet::{
     Decoded, ExecData, ExecResp, HelloReq, HelloResp, LengthCheck, SaharaPacket, SaharaPacketBody,
     Unk, sahara_parse_packet, sahara_read_packet_length,
 };
+use std::io;
+use std::io::Write;
 
 fn kind_of(body: SaharaPacketBody) -> SaharaCmd {
     match body {
@@ -30,150 +32,154 @@ fn kind_of(body: SaharaPacketBody) -> SaharaCmd {
     }
 }
 
-fn six_words(u: Unk) {
-    show::three_words(u.unk0, u.unk1, u.unk2);
-    show::three_words(u.unk3, u.unk4, u.unk5);
+fn six_words<W: Write>(to: &mut W, u: Unk) -> io::Result<()> {
+    show::three_words(to, u.unk0, u.unk1, u.unk2)?;
+    show::three_words(to, u.unk3, u.unk4, u.unk5)
 }
 
-fn hello_req(h: HelloReq) {
+fn hello_req<W: Write>(to: &mut W, h: HelloReq) -> io::Result<()> {
     let mode = h.mode;
     let unk = h.unk;
-    show::three_words(h.ver, h.compatible, h.max_len);
-    show::word(mode_number(mode));
-    six_words(unk);
+    show::three_words(to, h.ver, h.compatible, h.max_len)?;
+    show::word(to, mode_number(mode))?;
+    six_words(to, unk)
 }
 
-fn hello_resp(h: HelloResp) {
+fn hello_resp<W: Write>(to: &mut W, h: HelloResp) -> io::Result<()> {
     let mode = h.mode;
     let unk = h.unk;
-    show::three_words(h.ver, h.compatible, h.status);
-    show::word(mode_number(mode));
-    six_words(unk);
+    show::three_words(to, h.ver, h.compatible, h.status)?;
+    show::word(to, mode_number(mode))?;
+    six_words(to, unk)
 }
 
-fn exec_resp(e: ExecResp) {
+fn exec_resp<W: Write>(to: &mut W, e: ExecResp) -> io::Result<()> {
     let command = e.command;
-    show::word(command_number(command));
-    show::word(e.len);
+    show::word(to, command_number(command))?;
+    show::word(to, e.len)
 }
 
-fn exec_data(e: ExecData) {
+fn exec_data<W: Write>(to: &mut W, e: ExecData) -> io::Result<()> {
     let command = e.command;
-    show::word(command_number(command));
+    show::word(to, command_number(command))
 }
 
 // The fields of a body, in document 01's order.
-fn fields(body: SaharaPacketBody) {
+fn fields<W: Write>(to: &mut W, body: SaharaPacketBody) -> io::Result<()> {
     match body {
-        SaharaPacketBody::HelloReq(h) => hello_req(h),
-        SaharaPacketBody::HelloResp(h) => hello_resp(h),
-        SaharaPacketBody::ReadReq(r) => show::three_words(r.image, r.offset, r.len),
-        SaharaPacketBody::Eoi(e) => show::two_words(e.image, e.status),
-        SaharaPacketBody::DoneReq => {}
-        SaharaPacketBody::DoneResp(d) => show::word(d.status),
-        SaharaPacketBody::ResetResp => {}
-        SaharaPacketBody::DebugReq(d) => show::two_words(d.addr, d.len),
-        SaharaPacketBody::ReadMemReq(r) => show::two_words(r.addr, r.len),
-        SaharaPacketBody::CommandReady => {}
-        SaharaPacketBody::ExecResp(e) => exec_resp(e),
-        SaharaPacketBody::ExecData(e) => exec_data(e),
-        SaharaPacketBody::Debug64Req(d) => show::two_longs(d.addr, d.len),
-        SaharaPacketBody::ReadMem64Req(r) => show::two_longs(r.addr, r.len),
+        SaharaPacketBody::HelloReq(h) => hello_req(to, h),
+        SaharaPacketBody::HelloResp(h) => hello_resp(to, h),
+        SaharaPacketBody::ReadReq(r) => show::three_words(to, r.image, r.offset, r.len),
+        SaharaPacketBody::Eoi(e) => show::two_words(to, e.image, e.status),
+        SaharaPacketBody::DoneReq => Ok(()),
+        SaharaPacketBody::DoneResp(d) => show::word(to, d.status),
+        SaharaPacketBody::ResetResp => Ok(()),
+        SaharaPacketBody::DebugReq(d) => show::two_words(to, d.addr, d.len),
+        SaharaPacketBody::ReadMemReq(r) => show::two_words(to, r.addr, r.len),
+        SaharaPacketBody::CommandReady => Ok(()),
+        SaharaPacketBody::ExecResp(e) => exec_resp(to, e),
+        SaharaPacketBody::ExecData(e) => exec_data(to, e),
+        SaharaPacketBody::Debug64Req(d) => show::two_longs(to, d.addr, d.len),
+        SaharaPacketBody::ReadMem64Req(r) => show::two_longs(to, r.addr, r.len),
         SaharaPacketBody::ReadData64Req(r) => {
-            show::long(r.image);
-            show::two_longs(r.offset, r.len);
+            show::long(to, r.image)?;
+            show::two_longs(to, r.offset, r.len)
         }
     }
 }
 
-fn packet(p: SaharaPacket) {
+fn packet<W: Write>(to: &mut W, p: SaharaPacket) -> io::Result<()> {
     let body = p.body;
-    show::text(b"packet");
-    show::word(kind_number(kind_of(body)));
-    show::word(p.len);
-    fields(body);
+    show::text(to, b"packet")?;
+    show::word(to, kind_number(kind_of(body)))?;
+    show::word(to, p.len)?;
+    fields(to, body)
 }
 
 // d BYTES: the kind's number, the length field, the fields.
-pub(crate) fn decode(line: &[u8]) {
+pub(crate) fn decode<W: Write>(to: &mut W, line: &[u8]) -> io::Result<()> {
     let mut p = [0u8; 1024];
     let n = text::bytes(line, 1, &mut p);
     match sahara_parse_packet(&p[..n]) {
-        Decoded::Is(d) => packet(d),
-        Decoded::Refused(k) => show::refused(k),
+        Decoded::Is(d) => packet(to, d),
+        Decoded::Refused(k) => show::refused(to, k),
     }
 }
 
 // l LENGTH
-pub(crate) fn length(line: &[u8]) {
+pub(crate) fn length<W: Write>(to: &mut W, line: &[u8]) -> io::Result<()> {
     match sahara_read_packet_length(text::number(line, 1)) {
-        LengthCheck::Good => show::good(),
-        LengthCheck::Refused(k) => show::refused(k),
+        LengthCheck::Good => show::good(to),
+        LengthCheck::Refused(k) => show::refused(to, k),
     }
 }
 
-fn sent(k: usize) {
-    show::text(b"send ");
-    show::number(k);
+fn sent<W: Write>(to: &mut W, k: usize) -> io::Result<()> {
+    show::text(to, b"send ")?;
+    show::number(to, k)
 }
 
-fn built(out: &mut [u8], q: Request) {
+fn built<W: Write>(to: &mut W, out: &mut [u8], q: Request) -> io::Result<()> {
     match build(out, q) {
-        Built::Send(k) => sent(k),
-        Built::Refused(k) => show::refused(k),
+        Built::Send(k) => sent(to, k)?,
+        Built::Refused(k) => show::refused(to, k)?,
     }
-    show::text(b" ");
-    show::bytes(out);
+    show::text(to, b" ")?;
+    show::bytes(to, out)
 }
 
-fn build_hello(line: &[u8], out: &mut [u8]) {
+fn build_hello<W: Write>(to: &mut W, line: &[u8], out: &mut [u8]) -> io::Result<()> {
     match mode_of(text::number(line, 3)) {
-        ModeOf::Is(m) => built(out, Request::HelloResp(m)),
-        ModeOf::Bad => show::nothing(),
+        ModeOf::Is(m) => built(to, out, Request::HelloResp(m)),
+        ModeOf::Bad => show::nothing(to),
     }
 }
 
-fn build_execute(line: &[u8], out: &mut [u8]) {
+fn build_execute<W: Write>(to: &mut W, line: &[u8], out: &mut [u8]) -> io::Result<()> {
     match command_of(text::number(line, 3)) {
-        CommandOf::Is(c) => built(out, Request::Execute(c)),
-        CommandOf::Bad => show::nothing(),
+        CommandOf::Is(c) => built(to, out, Request::Execute(c)),
+        CommandOf::Bad => show::nothing(to),
     }
 }
 
-fn build_execute_data(line: &[u8], out: &mut [u8]) {
+fn build_execute_data<W: Write>(to: &mut W, line: &[u8], out: &mut [u8]) -> io::Result<()> {
     match command_of(text::number(line, 3)) {
-        CommandOf::Is(c) => built(out, Request::ExecuteData(c)),
-        CommandOf::Bad => show::nothing(),
+        CommandOf::Is(c) => built(to, out, Request::ExecuteData(c)),
+        CommandOf::Bad => show::nothing(to),
     }
 }
 
-fn build_mem_read(line: &[u8], out: &mut [u8], width: Width) {
+fn build_mem_read<W: Write>(
+    to: &mut W,
+    line: &[u8],
+    out: &mut [u8],
+    width: Width,
+) -> io::Result<()> {
     let addr = text::long(line, 3);
     let len = text::long(line, 4);
-    built(out, Request::MemRead(width, addr, len));
+    built(to, out, Request::MemRead(width, addr, len))
 }
 
-fn build_into(line: &[u8], out: &mut [u8]) {
+fn build_into<W: Write>(to: &mut W, line: &[u8], out: &mut [u8]) -> io::Result<()> {
     match text::number(line, 2) {
-        2 => build_hello(line, out),
-        5 => built(out, Request::Done),
-        7 => built(out, Request::Reset),
-        0x0a => build_mem_read(line, out, Width::Bits32),
-        0x0c => built(out, Request::SwitchMode),
-        0x0d => build_execute(line, out),
-        0x0f => build_execute_data(line, out),
-        0x11 => build_mem_read(line, out, Width::Bits64),
-        _ => show::nothing(),
+        2 => build_hello(to, line, out),
+        5 => built(to, out, Request::Done),
+        7 => built(to, out, Request::Reset),
+        0x0a => build_mem_read(to, line, out, Width::Bits32),
+        0x0c => built(to, out, Request::SwitchMode),
+        0x0d => build_execute(to, line, out),
+        0x0f => build_execute_data(to, line, out),
+        0x11 => build_mem_read(to, line, out, Width::Bits64),
+        _ => show::nothing(to),
     }
 }
 
 // b SIZE COMMAND ..: the packet of a command number in an out buffer of SIZE bytes of 0xAA, and the whole buffer afterwards.
-pub(crate) fn build_case(line: &[u8]) {
+pub(crate) fn build_case<W: Write>(to: &mut W, line: &[u8]) -> io::Result<()> {
     let mut out = [0xAAu8; 64];
     let size = text::index(line, 1);
     if 64 < size {
-        show::nothing();
-        return;
+        return show::nothing(to);
     }
-    build_into(line, &mut out[..size]);
+    build_into(to, line, &mut out[..size])
 }

@@ -5,65 +5,66 @@ use field::Width;
 use filename::{NameCheck, check_after_open, check_open, stem_len};
 use selection::{is_selected, next_selected};
 use sheet::{Sheet, region_sheet};
+use std::io;
+use std::io::Write;
 
 // u BYTES
-pub(crate) fn utf8_valid(line: &[u8]) {
+pub(crate) fn utf8_valid<W: Write>(to: &mut W, line: &[u8]) -> io::Result<()> {
     let mut s = [0u8; 1024];
     let n = text::bytes(line, 1, &mut s);
-    show::flag(utf8::valid(&s[..n]));
+    show::flag(to, utf8::valid(&s[..n]))
 }
 
-fn front(s: &[u8], k: usize) {
+fn front<W: Write>(to: &mut W, s: &[u8], k: usize) -> io::Result<()> {
     if s.len() < k {
-        show::nothing();
-        return;
+        return show::nothing(to);
     }
-    show::bytes(&s[..k]);
+    show::bytes(to, &s[..k])
 }
 
 // t NAME: the stem's bytes.
-pub(crate) fn stem(line: &[u8]) {
+pub(crate) fn stem<W: Write>(to: &mut W, line: &[u8]) -> io::Result<()> {
     let mut name = [0u8; 1024];
     let n = text::bytes(line, 1, &mut name);
     let k = stem_len(&name[..n]);
-    front(&name[..n], k);
+    front(to, &name[..n], k)
 }
 
-fn name_check(c: NameCheck) {
+fn name_check<W: Write>(to: &mut W, c: NameCheck) -> io::Result<()> {
     match c {
-        NameCheck::Good => show::good(),
-        NameCheck::Refused(k) => show::refused(k),
+        NameCheck::Good => show::good(to),
+        NameCheck::Refused(k) => show::refused(to, k),
     }
 }
 
 // o NAME
-pub(crate) fn opening(line: &[u8]) {
+pub(crate) fn opening<W: Write>(to: &mut W, line: &[u8]) -> io::Result<()> {
     let mut name = [0u8; 1024];
     let n = text::bytes(line, 1, &mut name);
-    name_check(check_open(&name[..n]));
+    name_check(to, check_open(&name[..n]))
 }
 
 // p NAME
-pub(crate) fn opened(line: &[u8]) {
+pub(crate) fn opened<W: Write>(to: &mut W, line: &[u8]) -> io::Result<()> {
     let mut name = [0u8; 1024];
     let n = text::bytes(line, 1, &mut name);
-    name_check(check_after_open(&name[..n]));
+    name_check(to, check_after_open(&name[..n]))
 }
 
-fn texts(e: RamdumpTable64) {
+fn texts<W: Write>(to: &mut W, e: RamdumpTable64) -> io::Result<()> {
     let description = e.description;
     let filename = e.filename;
-    show::text(b" ");
-    show::bytes(&description);
-    show::text(b" ");
-    show::bytes(&filename);
+    show::text(to, b" ")?;
+    show::bytes(to, &description)?;
+    show::text(to, b" ")?;
+    show::bytes(to, &filename)
 }
 
-fn entry(e: RamdumpTable64) {
-    show::text(b"entry");
-    show::long(e.save_pref);
-    show::two_longs(e.base, e.len);
-    texts(e);
+fn entry<W: Write>(to: &mut W, e: RamdumpTable64) -> io::Result<()> {
+    show::text(to, b"entry")?;
+    show::long(to, e.save_pref)?;
+    show::two_longs(to, e.base, e.len)?;
+    texts(to, e)
 }
 
 // The width of a table's numbers, in bits.
@@ -75,58 +76,59 @@ pub(crate) fn width(line: &[u8]) -> Width {
 }
 
 // e WIDTH TABLE INDEX
-pub(crate) fn decode_entry(line: &[u8]) {
+pub(crate) fn decode_entry<W: Write>(to: &mut W, line: &[u8]) -> io::Result<()> {
     let mut table = [0u8; 1024];
     let n = text::bytes(line, 2, &mut table);
     let i = text::index(line, 3);
     let r = entry_at(&table[..n], width(line), i);
     let e = r.entry;
     if r.there {
-        entry(e);
-        return;
+        return entry(to, e);
     }
-    show::text(b"none");
+    show::text(to, b"none")
 }
 
 // x WIDTH TABLE INDEX NAMES
-pub(crate) fn selected(line: &[u8]) {
+pub(crate) fn selected<W: Write>(to: &mut W, line: &[u8]) -> io::Result<()> {
     let mut table = [0u8; 1024];
     let mut names = [0u8; 1024];
     let n = text::bytes(line, 2, &mut table);
     let i = text::index(line, 3);
     let m = text::bytes(line, 4, &mut names);
-    show::flag(is_selected(&table[..n], width(line), i, &names[..m]));
+    show::flag(to, is_selected(&table[..n], width(line), i, &names[..m]))
 }
 
 // y WIDTH TABLE ENTRIES NAMES FROM
-pub(crate) fn next(line: &[u8]) {
+pub(crate) fn next<W: Write>(to: &mut W, line: &[u8]) -> io::Result<()> {
     let mut table = [0u8; 1024];
     let mut names = [0u8; 1024];
     let n = text::bytes(line, 2, &mut table);
     let entries = text::index(line, 3);
     let m = text::bytes(line, 4, &mut names);
     let from = text::index(line, 5);
-    show::number(next_selected(&table[..n], width(line), entries, &names[..m], from));
+    show::number(
+        to,
+        next_selected(&table[..n], width(line), entries, &names[..m], from),
+    )
 }
 
-fn sheet_into(table: &[u8], width: Width, page: &mut [u8]) {
+fn sheet_into<W: Write>(to: &mut W, table: &[u8], width: Width, page: &mut [u8]) -> io::Result<()> {
     match region_sheet(table, width, page) {
-        Sheet::Made(k) => show::number(k),
-        Sheet::Refused(why) => show::refused(why),
+        Sheet::Made(k) => show::number(to, k)?,
+        Sheet::Refused(why) => show::refused(to, why)?,
     }
-    show::text(b" ");
-    show::bytes(page);
+    show::text(to, b" ")?;
+    show::bytes(to, page)
 }
 
 // r WIDTH TABLE SIZE: the region sheet on a page of SIZE bytes of 0xAA, and the whole page afterwards.
-pub(crate) fn sheet(line: &[u8]) {
+pub(crate) fn sheet<W: Write>(to: &mut W, line: &[u8]) -> io::Result<()> {
     let mut table = [0u8; 1024];
     let n = text::bytes(line, 2, &mut table);
     let mut page = [0xAAu8; 1024];
     let size = text::index(line, 3);
     if 1024 < size {
-        show::nothing();
-        return;
+        return show::nothing(to);
     }
-    sheet_into(&table[..n], width(line), &mut page[..size]);
+    sheet_into(to, &table[..n], width(line), &mut page[..size])
 }

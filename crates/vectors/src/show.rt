@@ -1,79 +1,75 @@
 // What is written: fields and bytes in hexadecimal, other numbers in decimal.
-use libc::STDOUT_FILENO;
+use std::io;
+use std::io::Write;
 
-pub(crate) fn line_end() {
-    io::write_all(STDOUT_FILENO, b"\n");
+pub(crate) fn line_end<W: Write>(to: &mut W) -> io::Result<()> {
+    to.write_all(b"\n")
 }
 
-pub(crate) fn text(s: &[u8]) {
-    io::write_all(STDOUT_FILENO, s);
+pub(crate) fn text<W: Write>(to: &mut W, s: &[u8]) -> io::Result<()> {
+    to.write_all(s)
 }
 
-pub(crate) fn number(n: usize) {
-    io::print_decimal(STDOUT_FILENO, n as u64);
+pub(crate) fn number<W: Write>(to: &mut W, n: usize) -> io::Result<()> {
+    write!(to, "{n}")
 }
 
-pub(crate) fn good() {
-    io::write_all(STDOUT_FILENO, b"good");
+pub(crate) fn good<W: Write>(to: &mut W) -> io::Result<()> {
+    to.write_all(b"good")
 }
 
-pub(crate) fn refused(n: u8) {
-    io::write_all(STDOUT_FILENO, b"refused ");
-    io::print_decimal(STDOUT_FILENO, n as u64);
+pub(crate) fn refused<W: Write>(to: &mut W, n: u8) -> io::Result<()> {
+    write!(to, "refused {n}")
 }
 
 // A line that is no case.
-pub(crate) fn nothing() {
-    io::write_all(STDOUT_FILENO, b"?");
+pub(crate) fn nothing<W: Write>(to: &mut W) -> io::Result<()> {
+    to.write_all(b"?")
 }
 
-pub(crate) fn flag(b: bool) {
+pub(crate) fn flag<W: Write>(to: &mut W, b: bool) -> io::Result<()> {
     if b {
-        io::write_all(STDOUT_FILENO, b"1");
-        return;
+        return to.write_all(b"1");
     }
-    io::write_all(STDOUT_FILENO, b"0");
+    to.write_all(b"0")
 }
 
 // A field, behind a space.
-pub(crate) fn long(v: u64) {
-    io::write_all(STDOUT_FILENO, b" ");
-    io::print_hex(STDOUT_FILENO, v, 1);
+pub(crate) fn long<W: Write>(to: &mut W, v: u64) -> io::Result<()> {
+    write!(to, " {v:x}")
 }
 
-pub(crate) fn word(v: u32) {
-    long(v as u64);
+pub(crate) fn word<W: Write>(to: &mut W, v: u32) -> io::Result<()> {
+    long(to, v as u64)
 }
 
-pub(crate) fn two_words(a: u32, b: u32) {
-    word(a);
-    word(b);
+pub(crate) fn two_words<W: Write>(to: &mut W, a: u32, b: u32) -> io::Result<()> {
+    word(to, a)?;
+    word(to, b)
 }
 
-pub(crate) fn three_words(a: u32, b: u32, c: u32) {
-    word(a);
-    word(b);
-    word(c);
+pub(crate) fn three_words<W: Write>(to: &mut W, a: u32, b: u32, c: u32) -> io::Result<()> {
+    word(to, a)?;
+    word(to, b)?;
+    word(to, c)
 }
 
-pub(crate) fn two_longs(a: u64, b: u64) {
-    long(a);
-    long(b);
+pub(crate) fn two_longs<W: Write>(to: &mut W, a: u64, b: u64) -> io::Result<()> {
+    long(to, a)?;
+    long(to, b)
 }
 
-fn digits(b: u8) {
-    io::print_hex(STDOUT_FILENO, b as u64, 2);
+fn digits<W: Write>(to: &mut W, b: u8) -> io::Result<()> {
+    write!(to, "{b:02x}")
 }
 
 // `-` for no bytes.
-pub(crate) fn bytes(s: &[u8]) {
+pub(crate) fn bytes<W: Write>(to: &mut W, s: &[u8]) -> io::Result<()> {
     if s.len() == 0 {
-        io::write_all(STDOUT_FILENO, b"-");
-        return;
+        return to.write_all(b"-");
     }
-    let mut i: usize = 0;
-    while i < s.len() {
-        digits(s[i]);
-        i += 1;
+    for b in s {
+        digits(to, *b)?;
     }
+    Ok(())
 }

@@ -1,6 +1,5 @@
 // A line of words with one space between two of them: a word is bytes or a number, in hexadecimal.
 ghost use Rattle.std.specs.Prelude.{◌≤◌, ◌<◌, length};
-ghost use Rattle.io.specs.Counts.{IsPrefixLen};
 
 // The first place of b from a place on, the end where there is none.
 pub(crate) fn find(s: &[u8], at: usize, b: u8) -> usize
@@ -22,14 +21,12 @@ fn start_of(line: &[u8], k: usize) -> usize
     ensures { result ≤ length line.now }
 {
     let mut at: usize = 0;
-    let mut left = k;
-    while 0 < left {
+    for _ in 0..k {
         let e = find(line, at, b' ');
         if e == line.len() {
             return e;
         }
         at = e + 1;
-        left -= 1;
     }
     at
 }
@@ -61,32 +58,28 @@ fn byte(high: u64, low: u64) -> u8
 // The number that digits write, its last 64 bits.
 fn value(s: &[u8]) -> u64 {
     let mut v: u64 = 0;
-    let mut i: usize = 0;
-    while i < s.len() {
-        v = v % 0x1000000000000000 * 16 + digit(s[i]);
-        i += 1;
+    for b in s {
+        v = v % 0x1000000000000000 * 16 + digit(*b);
     }
     v
 }
 
 // The bytes that digits write, two a byte, put at the front of d: how many. `-` writes none.
 fn fill(s: &[u8], d: &mut [u8]) -> usize
-    ensures { IsPrefixLen result d.new }
+    ensures { result ≤ length d.new }
 {
-    let mut k: usize = 0;
-    while k < d.len() {
+    for k in 0..d.len() {
         if s.len() / 2 <= k {
             return k;
         }
         d[k] = byte(digit(s[2 * k]), digit(s[2 * k + 1]));
-        k += 1;
     }
-    k
+    d.len()
 }
 
 // The bytes of word k, put at the front of d: how many.
 pub(crate) fn bytes(line: &[u8], k: usize, d: &mut [u8]) -> usize
-    ensures { IsPrefixLen result d.new }
+    ensures { result ≤ length d.new }
 {
     fill(word(line, k), d)
 }
