@@ -1,5 +1,4 @@
 -- `in_place::count` meets its contract: each part is what the call gives. Assumes nothing.
-use borrow.Author.Rules.{rules}
 use Rattle.in_place.proofs.count.Goals as goal
 
 pub returns : goal.returns

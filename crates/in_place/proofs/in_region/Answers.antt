@@ -1,7 +1,6 @@
 -- `in_place::in_region` meets its contract: test by test. Assumes nothing.
 use mathlib.Core.Path.{sym, ◌∙◌}
 use borrow.Author.Tests.{eq-eqb, ne_eqb, lt-ltb, le-ltb}
-use borrow.Author.Rules.{rules}
 use Rattle.in_place.proofs.in_region.Goals as goal
 
 pub returns-then-is_width : goal.returns-then-is_width

@@ -1,6 +1,5 @@
 -- `in_place::waits_at` meets its contract: by whether an empty read is due. Assumes nothing.
 use borrow.Author.Tests.{eq-eqb, ne_eqb}
-use borrow.Author.Rules.{rules}
 use Rattle.in_place.proofs.waits_at.Goals as goal
 
 pub returns-then-numbers-eq-IS_DUE : goal.returns-then-numbers-eq-IS_DUE
