@@ -53,7 +53,7 @@ use Rattle.fetch.specs.Plain.{
   plain,
 }
 use Rattle.fetch.specs.Device.{Host, definitions, first, Lent, served, World, start, next}
-use Rattle.fetch.specs.Claim.{reports, region_bytes, region_reads, enough, Premises, dumps, Fetched, Demand}
+use Rattle.fetch.specs.Claim.{reports, region_bytes, region_reads, enough, Premises, dumps, Demand}
 use Rattle.fetch.specs.Wrong.{FailsOn, named_before, hasty, thrifty, merging, early, inventing, wholesale, padding, greedy, idle}
 use Rattle.fetch.proofs.Played.{lending, drive, drive_fair, drive_owns, all_fair, played_fair, tested}
 use Rattle.fetch_shown.proofs.Example.{debug_bytes, read_bytes, on, entry_bytes}

@@ -1,14 +1,13 @@
 -- `slot_sizes::data_size` meets its contract. The loop's invariant: the total is that of the first i slots, and at most the most. Assumes nothing.
 use mathlib.Core.Path.{◌≡◌, sym}
 use mathlib.Core.List.{List}
-use Prim.Native.Nat.{ℕ, suc, ◌+◌, ◌-◌, ◌≤◌}
+use Prim.Native.Nat.{ℕ, suc, ◌+◌}
 use native.Mathlib.Numerals.{add-one}
 use native.Mathlib.Omega.{arith}
 use lib.ListN.{length}
-use Rattle.writer.specs.Writer.{data_of, most_data}
+use Rattle.writer.specs.Writer.{data_of}
 use Rattle.tidied.specs.Tidy.{first_contents}
 use Rattle.tidied.proofs.Laws.{data_none, data_grows, data_up_to}
-use borrow.Author.Rules.{rules}
 use Rattle.slot_sizes.proofs.data_size.Goals as goal
 
 pub loop-i-init : goal.loop-i-init
