@@ -2,7 +2,6 @@
 use mathlib.Core.Path.{sym, ◌∙◌}
 use native.Mathlib.Omega.{arith}
 use Rattle.copy.proofs.Laws.{copied_fits, copied_beyond, copied_short}
-use borrow.Author.Rules.{rules}
 use Rattle.copy.proofs.copy_into.Goals as goal
 
 pub returns-then-d-n : goal.returns-then-d-n

@@ -1,7 +1,6 @@
 -- `field::get4` meets its contract: the four bytes are the field by `le4`. Assumes nothing.
 use native.Mathlib.Omega.{arith}
 use Rattle.field.proofs.Laws.{le4}
-use borrow.Author.Rules.{rules}
 use Rattle.field.proofs.get4.Goals as goal
 
 pub returns : goal.returns

@@ -1,7 +1,6 @@
 -- `field::get8` meets its contract: two fields of 4 bytes are one of 8, by `le_split`. Assumes nothing.
 use native.Mathlib.Omega.{arith}
 use Rattle.field.proofs.Laws.{le_split}
-use borrow.Author.Rules.{rules}
 use Rattle.field.proofs.get8.Goals as goal
 
 pub returns : goal.returns

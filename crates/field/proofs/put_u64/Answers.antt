@@ -4,7 +4,6 @@ use native.Mathlib.Omega.{arith}
 use Rattle.field.specs.Field.{written}
 use Rattle.field.specs.declared.Put.TheVariants as P
 use Rattle.field.proofs.Laws.{put_done, put_short}
-use borrow.Author.Rules.{rules}
 use Rattle.field.proofs.put_u64.Goals as goal
 
 pub returns-then-d-lt8 : goal.returns-then-d-lt8

@@ -1,10 +1,9 @@
 -- `field::set4` meets its contract: the four stores are the store of the field's bytes. Assumes nothing.
 use native.Mathlib.Omega.{arith}
-use mathlib.Core.Path.{◌≡◌, refl, ap, sym, ◌∙◌}
-use Prim.Native.Nat.{ℕ, suc, ◌+◌, ◌*◌, ◌/◌, ◌%◌}
+use mathlib.Core.Path.{◌≡◌, refl}
+use Prim.Native.Nat.{suc, ◌+◌, ◌/◌}
 use Rattle.field.specs.Field.{le_bytes}
 use lib.ListN.{length-set}
-use borrow.Author.Rules.{rules}
 use Rattle.field.proofs.set4.Goals as goal
 
 pub bounds-d-at-2 : goal.bounds-d-at-2

@@ -6,7 +6,6 @@ use lib.Seq.{sets}
 use Rattle.field.specs.Field.{le_bytes}
 use Rattle.base.proofs.Lists.{sets_append}
 use Rattle.field.proofs.Laws.{le_bytes_split, le_bytes_mod, length_le_bytes}
-use borrow.Author.Rules.{rules}
 use Rattle.field.proofs.set8.Goals as goal
 
 pub returns : goal.returns

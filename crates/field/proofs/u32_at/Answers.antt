@@ -3,7 +3,6 @@ use mathlib.Core.Path.{sym, ap, ◌∙◌}
 use native.Mathlib.Omega.{arith}
 use Rattle.field.specs.declared.Field4.TheVariants as F
 use Rattle.field.proofs.Laws.{field_is, field_short}
-use borrow.Author.Rules.{rules}
 use Rattle.field.proofs.u32_at.Goals as goal
 
 pub returns-then-s-lt4 : goal.returns-then-s-lt4

@@ -2,7 +2,6 @@
 use mathlib.Core.Path.{sym}
 use native.Mathlib.Omega.{arith}
 use Rattle.field.proofs.Laws.{le4, le_past}
-use borrow.Author.Rules.{rules}
 use Rattle.field.proofs.u32_padded.Goals as goal
 
 pub returns-then-s-at : goal.returns-then-s-at

@@ -3,7 +3,6 @@ use mathlib.Core.Path.{sym, ap, ◌∙◌}
 use native.Mathlib.Omega.{arith}
 use Rattle.field.specs.declared.Field8.TheVariants as F
 use Rattle.field.proofs.Laws.{field_is, field_short}
-use borrow.Author.Rules.{rules}
 use Rattle.field.proofs.u64_at.Goals as goal
 
 pub returns-then-s-lt8 : goal.returns-then-s-lt8

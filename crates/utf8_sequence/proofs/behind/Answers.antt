@@ -5,7 +5,6 @@ use Prim.Native.Nat.{ℕ, ◌+◌, ◌<◌}
 use native.Mathlib.Omega.{arith}
 use lib.ListN.{length}
 use borrow.Author.Tests.{not-true, not-false}
-use borrow.Author.Rules.{rules}
 use Rattle.utf8_sequence.proofs.Laws.{placed, Second, Third, Fourth, no_second, no_third, no_fourth, one_byte, two_bytes, three_bytes, four_bytes, too_many}
 use Rattle.utf8_sequence.proofs.behind.Goals as goal
 use Rattle.utf8_sequence.proofs.behind.Goals.{Else-more-eq1, Else-more-eq2, Else-not-there, Else-not-there-2, Else-not-there-3}

@@ -2,7 +2,6 @@
 use mathlib.Core.Path.{refl, sym}
 use native.Mathlib.Omega.{arith}
 use borrow.Author.Tests.{lt-leb, le-leb}
-use borrow.Author.Rules.{rules}
 use Rattle.utf8_sequence.proofs.Laws.{none, first}
 use Rattle.utf8_sequence.proofs.there.Goals as goal
 
