@@ -21,10 +21,9 @@ use Rattle.forecast.proofs.forecast_table.Goals as goal
 
 pub loop-i-init : goal.loop-i-init
 loop-i-init c =
-    let w = c in
-    let a = w.args in
-    begins chunk a.names.now (field_size a.width) a.table.now w.entries_in-n.result c.next_selected-i.result w.start-s.result
-    w.entries_in-n.ensures c.next_selected-i.ensures
+    let a = c.args in
+    begins chunk a.names.now (field_size a.width) a.table.now c.entries_in-n.result c.next_selected-i.result c.start-s.result
+    c.entries_in-n.ensures c.next_selected-i.ensures
 
 pub overflow_add-i : goal.overflow_add-i
 overflow_add-i c = omega arith
@@ -32,37 +31,32 @@ overflow_add-i c = omega arith
 pub loop-i-smaller : goal.loop-i-smaller
 loop-i-smaller c =
     let l = c.loop-i in
-    let w = c in
-    let a = w.args in
-    let n : ℕ = w.entries_in-n.result in
+    let a = c.args in
+    let n : ℕ = c.entries_in-n.result in
     omega (arith, c.next_selected-i-in-loop-i.ensures, next_from (field_size a.width) a.names.now a.table.now (n - (l.i + 1)) (l.i + 1))
 
 pub loop-i-preserved : goal.loop-i-preserved
 loop-i-preserved c =
-    let m = c in
-    let e = c in
-    let l = e.loop-i in
-    let w = c in
-    let a = w.args in
+    let l = c.loop-i in
+    let a = c.args in
     let f : ℕ = field_size a.width in
     let t : List ℕ = a.table.now in
-    let n : ℕ = w.entries_in-n.result in
-    let q : e.entry_at-found.result.entry ≡ entry_in f t l.i =
-    ap (λ (x : EntryAt). x.entry) e.entry_at-found.ensures ∙ entry_found f t l.i (omega (arith, w.entries_in-n.ensures)) in
-    goes_on_lem chunk a.names.now f t n l.i c.next_selected-i-in-loop-i.result l.s m.more-s.result _ (omega (arith, w.entries_in-n.ensures)) (omega arith)
-    l.invariant (m.more-s.ensures ∙ ap (λ (x : RamdumpTable64). more_of chunk l.s x.len) q) c.next_selected-i-in-loop-i.ensures
+    let n : ℕ = c.entries_in-n.result in
+    let q : c.entry_at-found.result.entry ≡ entry_in f t l.i =
+    ap (λ (x : EntryAt). x.entry) c.entry_at-found.ensures ∙ entry_found f t l.i (omega (arith, c.entries_in-n.ensures)) in
+    goes_on_lem chunk a.names.now f t n l.i c.next_selected-i-in-loop-i.result l.s c.more-s.result _ (omega (arith, c.entries_in-n.ensures)) (omega arith)
+    l.invariant (c.more-s.ensures ∙ ap (λ (x : RamdumpTable64). more_of chunk l.s x.len) q) c.next_selected-i-in-loop-i.ensures
 
 pub returns : goal.returns
 returns c =
     let l = c.loop-i in
-    let w = c in
-    let a = w.args in
+    let a = c.args in
     let f : ℕ = field_size a.width in
     let t : List ℕ = a.table.now in
     let names : List ℕ = a.names.now in
     let whole : l.s ≡ add_all chunk names (start_of names) (entries_of f t) =
-    sym (finished chunk names f t w.entries_in-n.result l.i l.s (omega arith)) ∙ l.invariant.same
-    ∙ ap (λ (x : Sums). add_all chunk names x (entries_of f t)) w.start-s.ensures in
+    sym (finished chunk names f t c.entries_in-n.result l.i l.s (omega arith)) ∙ l.invariant.same
+    ∙ ap (λ (x : Sums). add_all chunk names x (entries_of f t)) c.start-s.ensures in
     tells forecast_told
     (c.finish.ensures ∙ ap foreseen_of whole
     ∙ sums_are chunk names (entries_of f t) (rw (length_entries f t (entries_in f (length t)) 0) (omega arith)))

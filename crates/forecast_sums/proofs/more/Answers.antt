@@ -7,31 +7,28 @@ returns-then-s-ne0 c = simp (ne_eqb _ _ c.if-s-ne0.true)
 
 pub returns-then-s-len : goal.returns-then-s-len
 returns-then-s-len c =
-    let r = c in
-    let a = r.args in
-    c.refuse.ensures ∙ rw (r.if-s-ne0.false, lt-ltb (2 ^ 64 - 1) (a.s.bytes + a.len) (omega arith)) refl
+    let a = c.args in
+    c.refuse.ensures ∙ rw (c.if-s-ne0.false, lt-ltb (2 ^ 64 - 1) (a.s.bytes + a.len) (omega arith)) refl
 
 pub returns-then-s-reads : goal.returns-then-s-reads
 returns-then-s-reads c =
-    let r = c in
-    let a = r.args in
+    let a = c.args in
     c.refuse-then-s-reads.ensures
     ∙ rw (
-      r.if-s-ne0.false,
+      c.if-s-ne0.false,
       le-ltb (2 ^ 64 - 1) (a.s.bytes + a.len) (omega arith),
-      ← r.chunk_reads-reads.ensures,
-      lt-ltb (2 ^ 64 - 1) (a.s.reads + r.chunk_reads-reads.result) (omega arith),
+      ← c.chunk_reads-reads.ensures,
+      lt-ltb (2 ^ 64 - 1) (a.s.reads + c.chunk_reads-reads.result) (omega arith),
     )
     refl
 
 pub returns : goal.returns
 returns c =
-    let r = c in
-    let a = r.args in
+    let a = c.args in
     rw (
-      r.if-s-ne0.false,
+      c.if-s-ne0.false,
       le-ltb (2 ^ 64 - 1) (a.s.bytes + a.len) (omega arith),
-      ← r.chunk_reads-reads.ensures,
-      le-ltb (2 ^ 64 - 1) (a.s.reads + r.chunk_reads-reads.result) (omega arith),
+      ← c.chunk_reads-reads.ensures,
+      le-ltb (2 ^ 64 - 1) (a.s.reads + c.chunk_reads-reads.result) (omega arith),
     )
     cc
