@@ -1,13 +1,11 @@
 -- `selection::is_selected` meets its contract: by whether the entry is there. Assumes nothing.
 use mathlib.Core.Path.{◌≡◌, sym, ap, ◌∙◌}
 use mathlib.Core.Bool.{false}
-use borrow.Author.Tests.{not-true, not-false}
 use Rattle.field.specs.Field.{field_size}
 use Rattle.entry.specs.Entry.{there}
 use Rattle.entry.specs.declared.EntryAt.{EntryAt}
 use Rattle.entry.proofs.Laws.{entry_flag}
 use Rattle.selection.proofs.Laws.{selected_missing, selected_told}
-use borrow.Author.Rules.{rules}
 use Rattle.selection.proofs.is_selected.Goals as goal
 
 pub returns-then-not-there : goal.returns-then-not-there
@@ -15,7 +13,7 @@ returns-then-not-there c =
     let a = c.args in
     let r = c.entry_at-e in
     let h : there (field_size a.width) a.table.now a.i ≡ false =
-    sym (entry_flag (field_size a.width) a.table.now a.i) ∙ sym (ap (λ (x : EntryAt). x.there) r.ensures) ∙ not-true _ c.if-not-there.true-raw in
+    sym (entry_flag (field_size a.width) a.table.now a.i) ∙ sym (ap (λ (x : EntryAt). x.there) r.ensures) ∙ c.if-not-there.true in
     sym (selected_missing (field_size a.width) a.names.now a.table.now a.i h)
 
 pub returns : goal.returns
@@ -23,4 +21,4 @@ returns c =
     let a = c.args in
     let r = c.entry_at-e in
     c.selects.ensures
-    ∙ selected_told (field_size a.width) a.names.now a.table.now a.i r.result r.ensures (not-false _ c.if-not-there.false-raw)
+    ∙ selected_told (field_size a.width) a.names.now a.table.now a.i r.result r.ensures c.if-not-there.false

@@ -1,7 +1,6 @@
 -- `selection::lower` meets its contract: the two tests are the definition's. Assumes nothing.
 use borrow.Author.Tests.{le-leb, lt-leb}
 use Rattle.selection.specs.Selection.{low}
-use borrow.Author.Rules.{rules}
 use Rattle.selection.proofs.lower.Goals as goal
 
 pub returns-then-b-le90 : goal.returns-then-b-le90

@@ -7,12 +7,10 @@ use mathlib.Core.List.{List}
 use native.Mathlib.Numerals.{add-one}
 use native.Mathlib.Omega.{arith}
 use lib.ListN.{length}
-use borrow.Author.Tests.{not-true, not-false}
 use Rattle.field.specs.Field.{field_size}
 use Rattle.entry.specs.Entry.{entry_size}
 use Rattle.selection.specs.Selection.{selected_at, next_of}
 use Rattle.selection.proofs.Laws.{selected_told, beyond_told, next_here, next_on, next_none, next_beyond}
-use borrow.Author.Rules.{rules}
 use Rattle.selection.proofs.next_selected.Goals as goal
 use Rattle.selection.proofs.next_selected.Goals.{After-selects}
 
@@ -23,7 +21,7 @@ answered c b e =
     let a = c.args in
     let r = c.entry_at-e in
     let i : ℕ = c.loop-i.i in
-    sym (selected_told (field_size a.width) a.names.now a.table.now i r.result r.ensures (not-false _ c.if-not-there.false-raw))
+    sym (selected_told (field_size a.width) a.names.now a.table.now i r.result r.ensures c.if-not-there.false)
     ∙ sym c.selects.ensures
     ∙ e
 
@@ -38,7 +36,7 @@ returns-then-not-there c =
     let t : List ℕ = a.table.now in
     let names : List ℕ = a.names.now in
     let r = c.entry_at-e in
-    let e : length t / entry_size f ≤ l.i = beyond_told f t l.i r.result r.ensures (not-true _ c.if-not-there.true-raw) in
+    let e : length t / entry_size f ≤ l.i = beyond_told f t l.i r.result r.ensures c.if-not-there.true in
     let k : l.i + (a.entries - l.i) ≡ a.entries = omega arith in
     sym (l.invariant ∙ next_beyond f names t (a.entries - l.i) l.i e ∙ k)
 

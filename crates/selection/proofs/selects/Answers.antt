@@ -9,7 +9,6 @@ use Rattle.bundle.specs.Bundle.{count_of}
 use Rattle.filename.specs.Filename.{stem_of}
 use Rattle.filename.proofs.Laws.{stem_take, length_stem}
 use Rattle.selection.specs.Selection.{low, names_from, member, named, selected_by}
-use borrow.Author.Rules.{rules}
 use Rattle.selection.proofs.selects.Goals as goal
 
 pub returns-then-n-eq0 : goal.returns-then-n-eq0
