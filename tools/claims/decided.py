@@ -4,7 +4,7 @@ import functools
 from .specs import Case, words
 
 # behind these stands first a session, then the refusal's number; behind a case `Refused` the number
-REFUSES = ("untouched", "refusedRaw")
+REFUSES = ("untouched", "refused_raw")
 
 
 def choices(term, test=None):
@@ -72,7 +72,7 @@ class Refusals:
 
 
 class Answers:
-    """Which definitions give which answer of a step. A range becomes a verdict and a verdict an answer, each by a definition (`imageFor`, `acted`) that goes by
+    """Which definitions give which answer of a step. A range becomes a verdict and a verdict an answer, each by a definition (`image_for`, `acted`) that goes by
     its cases; these give the answer too."""
     BETWEEN = ("Verdict", "ImageRange")
 
@@ -113,9 +113,9 @@ class Answers:
 
     @functools.cached_property
     def numbers(self):
-        """The number of each answer, by `answerTold`."""
+        """The number of each answer, by `answer_told`."""
         found = {}
-        told = self.specs.only("answerTold")
+        told = self.specs.only("answer_told")
         for equation in self.specs.equations(told):
             by = self.specs.stands(told.path, equation.right[0])
             found[next(self._cases(told, equation.left)).name] = int(self.specs.equations(by)[0].right[1])

@@ -10,28 +10,28 @@ from .page import called, codes
 
 # what each phase, and what else stands in a table's first column, is decided by
 ROOTS = {
-    "the step": ("stepOf",),
-    "opening": ("openedWith", "openedRaw"),
-    "packet": ("packetOf",),
-    "response": ("responseOf", "switchedOf"),
-    "table": ("tableOf",),
-    "between": ("betweenOf",),
-    "region": ("regionOf",),
-    "ended": ("isEnded", "ended"),
-    "all": ("limitOf", "needsBytes", "wantedRaw", "waitsAt", "Within"),
-    "the channel's end": ("closedOf", "closedRaw"),
+    "the step": ("step_of",),
+    "opening": ("opened_with", "opened_raw"),
+    "packet": ("packet_of",),
+    "response": ("response_of", "switched_of"),
+    "table": ("table_of",),
+    "between": ("between_of",),
+    "region": ("region_of",),
+    "ended": ("is_ended", "ended"),
+    "all": ("limit_of", "needs_bytes", "wanted_raw", "waits_at", "Within"),
+    "the channel's end": ("closed_of", "closed_raw"),
     "plain host": ("plain",),
     "device": ("next", "Fair"),
     "demand 3": ("Demand",),
-    "the sheet": ("sheetOf",),
-    "a line": ("lineOf",),
-    "the page": ("sheetOf", "sheetRaw"),
-    "the forecast": ("forecastOf", "forecastRaw"),
+    "the sheet": ("sheet_of",),
+    "a line": ("line_of",),
+    "the page": ("sheet_of", "sheet_raw"),
+    "the forecast": ("forecast_of", "forecast_raw"),
     "a session": ("Foretells", "Decodes"),
-    "a slot": ("contentOf",),
-    "a bundle that is written": ("bundleBytes",),
-    "the tidy form": ("tidyOf",),
-    "the buffer": ("tidyOf",),
+    "a slot": ("content_of",),
+    "a bundle that is written": ("bundle_bytes",),
+    "the tidy form": ("tidy_of",),
+    "the buffer": ("tidy_of",),
     "two sets": ("EqualExactly", "SameImages", "TwiceIsOnce"),
     "two runs": ("ServesAlike",),
 }
@@ -47,7 +47,7 @@ class Index:
         self.specs = specs
         self.header = header
         self.refusals = Refusals(specs)
-        self.answers = Answers(specs, specs.only("stepOf"))
+        self.answers = Answers(specs, specs.only("step_of"))
         self.roots = {of: specs.reach(*[specs.only(name) for name in names]) for of, names in ROOTS.items()}
 
     def wrong(self, rows):

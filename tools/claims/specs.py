@@ -13,7 +13,7 @@ Case = collections.namedtuple("Case", "enum name number")
 Equation = collections.namedtuple("Equation", "left right")
 
 BEGINS = re.compile(r"^ *(?:(?:abbrev|unfoldable) pub (\S+) :|pub (record|data) ([^\s:]+))")
-USES = re.compile(r"^use Rattle·(\w+?)(?:·specs)?\.specs\.(declared\.)?(\w+)(\.the-variants)?(?:\.\{([^}]*)\}| as (\w+))", re.M)
+USES = re.compile(r"^use Rattle\.(\w+)\.specs\.(declared\.)?(\w+)(\.TheVariants)?(?:\.\{([^}]*)\}| as (\w+))", re.M)
 WORDS = re.compile(r"[()]|[^\s(){};,]+")
 
 
@@ -50,10 +50,11 @@ class Specs:
                 self.text[now] += line + "\n"
 
     def stands(self, path, word):
-        """The definition that a word of a file stands for, if it is one."""
-        if word in self.files[path]:
-            return self.files[path][word]
-        kind, place, name = self.imported[path].get(word.split(".")[0], ("", "", ""))
+        """The definition that a word of a file stands for, if it is one; of `name.field`, with nothing between, that of the name."""
+        head = word.split(".")[0]
+        if head in self.files[path]:
+            return self.files[path][head]
+        kind, place, name = self.imported[path].get(head, ("", "", ""))
         if kind == "definition":
             return self.files.get(place, {}).get(name)
         return self.files.get(place, {}).get(word.partition(".")[2]) if kind == "file" else None
