@@ -5,7 +5,6 @@ use Rattle.entry.specs.Entry.{entry_of, filename_of, decoded}
 use Rattle.entry.specs.declared.RamdumpTable64.{RamdumpTable64}
 use Rattle.filename.specs.Filename.{open_check}
 use Rattle.turn.proofs.Laws.{entry_told}
-use borrow.Author.Rules.{rules}
 use Rattle.between_phase.proofs.open_region.Goals as goal
 use Rattle.between_phase.proofs.open_region.Goals.{After-check_open-check, After-entry_at-at}
 

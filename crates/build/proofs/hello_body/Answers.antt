@@ -2,7 +2,6 @@
 -- Assumes nothing.
 use mathlib.Core.Path.{refl}
 use Rattle.field.specs.Field.{le_bytes, fields}
-use borrow.Author.Rules.{rules}
 use Rattle.build.proofs.hello_body.Goals as goal
 
 pub returns : goal.returns

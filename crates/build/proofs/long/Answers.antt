@@ -3,7 +3,6 @@ use mathlib.Core.Path.{ap, ◌∙◌}
 use native.Mathlib.Omega.{arith}
 use Rattle.field.specs.Field.{Written}
 use Rattle.field.proofs.Laws.{put_done}
-use borrow.Author.Rules.{rules}
 use Rattle.build.proofs.long.Goals as goal
 
 pub shape_of-out : goal.shape_of-out

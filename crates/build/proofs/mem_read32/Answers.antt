@@ -6,7 +6,6 @@ use Rattle.field.specs.declared.Width.TheVariants as WI
 use Rattle.build.specs.Build.{bytes_of}
 use Rattle.build.specs.declared.Request.TheVariants as Q
 use Rattle.build.proofs.Laws.{refuses, builds}
-use borrow.Author.Rules.{rules}
 use Rattle.build.proofs.mem_read32.Goals as goal
 
 pub returns-then-out-lt-LEAST : goal.returns-then-out-lt-LEAST

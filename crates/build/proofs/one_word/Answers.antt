@@ -1,7 +1,6 @@
 -- `build::one_word` meets its contract: the header's store and the word's, one behind the other, compute to the one. Assumes nothing.
 use mathlib.Core.Path.{refl}
 use Rattle.field.specs.Field.{le_bytes, fields}
-use borrow.Author.Rules.{rules}
 use Rattle.build.proofs.one_word.Goals as goal
 
 pub returns : goal.returns

@@ -4,7 +4,6 @@ use Rattle.field.specs.Field.{le_bytes, fields}
 use Rattle.build.specs.Build.{bytes_of}
 use Rattle.build.specs.declared.Request.TheVariants as Q
 use Rattle.build.proofs.Laws.{refuses, builds}
-use borrow.Author.Rules.{rules}
 use Rattle.build.proofs.sahara_send_cmd_data.Goals as goal
 
 pub returns-then-out-lt-LEAST : goal.returns-then-out-lt-LEAST

@@ -1,7 +1,6 @@
 -- `build::sahara_send_generic` meets its contract: the two stores, one behind the other, compute to the one. Assumes nothing.
 use mathlib.Core.Path.{refl}
 use Rattle.field.specs.Field.{le_bytes, fields}
-use borrow.Author.Rules.{rules}
 use Rattle.build.proofs.sahara_send_generic.Goals as goal
 
 pub returns : goal.returns

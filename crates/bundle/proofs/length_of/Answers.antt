@@ -4,7 +4,6 @@ use Prim.Native.Nat.{ℕ, ◌+◌, ◌*◌}
 use native.Mathlib.Omega.{arith}
 use lib.ListN.{drop}
 use Rattle.field.specs.Field.{le}
-use borrow.Author.Rules.{rules}
 use Rattle.bundle.proofs.length_of.Goals as goal
 
 pub slot_number-requires : goal.slot_number-requires

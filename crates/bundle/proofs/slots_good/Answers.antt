@@ -1,10 +1,9 @@
 -- `bundle::slots_good` meets its contract. The invariant: the slots from `i` on decide; the measure is the slots left. Assumes nothing.
 use mathlib.Core.Path.{◌≡◌, refl, sym, ◌∙◌}
 use mathlib.Core.Bool.{true, false}
-use Prim.Native.Nat.{◌≤◌, ◌-◌}
+use Prim.Native.Nat.{◌-◌}
 use native.Mathlib.Omega.{arith}
 use native.Mathlib.Nat.{sub-zero}
-use borrow.Author.Rules.{rules}
 use borrow.Author.Tests.{not-true, not-false}
 use Rattle.bundle.specs.Bundle.{slot_good, slots_good}
 use Rattle.bundle.proofs.Laws.{slots_step, slots_done}

@@ -2,7 +2,6 @@
 use mathlib.Core.Path.{◌≡◌}
 use borrow.Author.Tests.{eq-eqb, ne_eqb}
 use Rattle.verdict.specs.declared.QdlBackend.TheVariants.{Usb}
-use borrow.Author.Rules.{rules}
 use Rattle.chunk.proofs.due_after.Goals as goal
 
 pub returns-then-outstanding-eq0 : goal.returns-then-outstanding-eq0

@@ -10,7 +10,6 @@ use Rattle.base.proofs.Lists.{part_of_part}
 use Rattle.field.specs.Field.{field_size}
 use Rattle.entry.specs.Entry.{entry_size, preference_of, base_of, length_of, description_of, filename_of}
 use Rattle.entry.proofs.Laws.{number_within}
-use borrow.Author.Rules.{rules}
 use Rattle.entry.proofs.decode.Goals as goal
 
 pub returns : goal.returns

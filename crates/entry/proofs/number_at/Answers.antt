@@ -1,5 +1,4 @@
 -- `entry::number_at` meets its contract: by the width. Assumes nothing.
-use borrow.Author.Rules.{rules}
 use Rattle.entry.proofs.number_at.Goals as goal
 
 pub returns-in-Bits32 : goal.returns-in-Bits32

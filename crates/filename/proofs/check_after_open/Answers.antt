@@ -2,7 +2,6 @@
 use mathlib.Core.Path.{sym, ◌∙◌}
 use Rattle.base.proofs.Telling.{tells}
 use Rattle.filename.specs.Filename.{after_open_check, name_told}
-use borrow.Author.Rules.{rules}
 use Rattle.filename.proofs.check_after_open.Goals as goal
 
 pub returns-then-valid : goal.returns-then-valid

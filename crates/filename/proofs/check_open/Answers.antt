@@ -8,7 +8,6 @@ use lib.Seq.{length-take-le}
 use Rattle.base.proofs.Telling.{tells}
 use Rattle.filename.specs.Filename.{name_told}
 use Rattle.filename.proofs.Laws.{length_before, opening_none, opening_one}
-use borrow.Author.Rules.{rules}
 use Rattle.filename.proofs.check_open.Goals as goal
 
 pub returns-then-k-n : goal.returns-then-k-n

@@ -1,7 +1,6 @@
 -- `filename::stem_len` meets its contract: what `find` found in a name that is UTF-8, else 0. Assumes nothing.
 use mathlib.Core.Path.{sym, ◌∙◌}
 use Rattle.filename.specs.Filename.{stem_of}
-use borrow.Author.Rules.{rules}
 use Rattle.filename.proofs.stem_len.Goals as goal
 
 pub returns-then-valid : goal.returns-then-valid

@@ -4,7 +4,6 @@ use Prim.Native.Nat.{◌-◌, min}
 use native.Mathlib.Omega.{arith}
 use lib.ListN.{length}
 use Rattle.copy.proofs.Laws.{copied_fits}
-use borrow.Author.Rules.{rules}
 use Rattle.filling_phase.proofs.fill.Goals as goal
 
 pub returns : goal.returns

@@ -12,9 +12,8 @@ use Rattle.session.specs.FillingPhase.{response_of}
 use Rattle.session.specs.Guard.{response_step}
 use Rattle.turn.proofs.Laws.{passed, guard_refused, guard_passed}
 use Rattle.filling_phase.proofs.Laws.{room}
-use borrow.Author.Rules.{rules}
 use Rattle.filling_phase.proofs.response_step.Goals as goal
-use Rattle.filling_phase.proofs.response_step.Goals.{After-fill-n, After-guard-why, Start}
+use Rattle.filling_phase.proofs.response_step.Goals.{After-fill-n}
 
 pub returns-then-why-ne0 : goal.returns-then-why-ne0
 unfolding response_step

@@ -9,9 +9,8 @@ use Rattle.session.specs.FillingPhase.{table_of}
 use Rattle.session.specs.Guard.{table_step}
 use Rattle.turn.proofs.Laws.{guard_refused, guard_passed}
 use Rattle.filling_phase.proofs.Laws.{room}
-use borrow.Author.Rules.{rules}
 use Rattle.filling_phase.proofs.table_step.Goals as goal
-use Rattle.filling_phase.proofs.table_step.Goals.{After-fill-n, After-guard-why, Start}
+use Rattle.filling_phase.proofs.table_step.Goals.{After-fill-n}
 
 pub returns-then-why-ne0 : goal.returns-then-why-ne0
 unfolding table_step

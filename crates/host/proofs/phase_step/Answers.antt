@@ -7,7 +7,6 @@ use Rattle.session.specs.declared.Phase.{Phase}
 use Rattle.session.specs.declared.Stepped.{Stepped}
 use Rattle.session.specs.Outcome.{Outcome, outcome}
 use Rattle.session.specs.Guard.{phase_step}
-use borrow.Author.Rules.{rules}
 use Rattle.host.proofs.phase_step.Goals as goal
 use Rattle.host.proofs.phase_step.Goals.{Start}
 

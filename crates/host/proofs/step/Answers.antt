@@ -8,9 +8,8 @@ use Rattle.session.specs.Answers.{outcome_told}
 use Rattle.session.specs.declared.Stepped.{Stepped}
 use Rattle.session.specs.Outcome.{outcome}
 use Rattle.session.proofs.Parts.{step_1, step_2, step_phase}
-use borrow.Author.Rules.{rules}
 use Rattle.host.proofs.step.Goals as goal
-use Rattle.host.proofs.step.Goals.{After-check_images, In-Good, In-Good-check_names, Start}
+use Rattle.host.proofs.step.Goals.{In-Good, In-Good-check_names}
 
 -- behind each check its bundle is well formed
 images-formed : (c : In-Good) → well_formed true c.args.set.now ≡ true

@@ -2,7 +2,6 @@
 use Prim.Native.Nat.{◌+◌, ◌<◌, ◌≤◌}
 use native.Mathlib.Omega.{arith}
 use borrow.Author.Tests.{le-leb, lt-leb}
-use borrow.Author.Rules.{rules}
 use Rattle.image.proofs.part_of.Goals as goal
 
 pub returns-then-size-from : goal.returns-then-size-from

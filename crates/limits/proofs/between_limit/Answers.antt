@@ -1,6 +1,5 @@
 -- `limits::between_limit` meets its contract: by the two tests. Assumes nothing.
 use mathlib.Core.Path.{sym, ◌∙◌}
-use borrow.Author.Rules.{rules}
 use Rattle.limits.proofs.between_limit.Goals as goal
 
 pub returns-then-shorter : goal.returns-then-shorter

@@ -5,7 +5,6 @@ use borrow.Author.Tests.{lt-ltb, le-ltb, le-leb, lt-leb}
 use Rattle.packet.specs.Packet.{length_field, bad_length, length_checked}
 use Rattle.packet.specs.declared.LengthCheck.{LengthCheck}
 use Rattle.limits.proofs.Laws.{good_length, refused_length}
-use borrow.Author.Rules.{rules}
 use Rattle.limits.proofs.held_limit.Goals as goal
 use Rattle.limits.proofs.held_limit.Goals.{After-sahara_read_packet_length}
 

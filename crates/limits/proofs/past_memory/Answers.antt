@@ -1,5 +1,4 @@
 -- `limits::past_memory` meets its contract: by the width. Assumes nothing.
-use borrow.Author.Rules.{rules}
 use Rattle.limits.proofs.past_memory.Goals as goal
 
 pub returns-in-Bits32 : goal.returns-in-Bits32

@@ -6,7 +6,6 @@ use native.Mathlib.Omega.{arith}
 use lib.Dec.{ltb, leb}
 use lib.ListN.{length}
 use borrow.Author.Tests.{le-leb, lt-leb, eq-eqb, ne_eqb, ltb-false}
-use borrow.Author.Rules.{rules}
 use Rattle.field.specs.Field.{field_size}
 use Rattle.entry.specs.Entry.{entries_in}
 use Rattle.limits.proofs.Laws.{no_entry, too_much, none_yet, to_its_end}

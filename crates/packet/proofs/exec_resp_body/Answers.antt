@@ -1,5 +1,4 @@
 -- `packet::exec_resp_body` meets its contract: by the command. Assumes nothing.
-use borrow.Author.Rules.{rules}
 use Rattle.command.specs.Command.{command_of}
 use Rattle.packet.specs.Packet.{exec_resp_of}
 use Rattle.packet.proofs.Laws.{read_as}

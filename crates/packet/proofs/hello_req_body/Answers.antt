@@ -1,6 +1,5 @@
 -- `packet::hello_req_body` meets its contract: by the mode, the words under the names of this kind. Assumes nothing.
 use mathlib.Core.Path.{ap, ◌∙◌}
-use borrow.Author.Rules.{rules}
 use Rattle.command.specs.Command.{mode_of}
 use Rattle.packet.specs.Packet.{hello_of}
 use Rattle.packet.proofs.Laws.{as_req, read_as}

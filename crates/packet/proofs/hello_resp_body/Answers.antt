@@ -1,6 +1,5 @@
 -- `packet::hello_resp_body` meets its contract: by the mode. Assumes nothing.
 use mathlib.Core.Path.{ap, ◌∙◌}
-use borrow.Author.Rules.{rules}
 use Rattle.command.specs.Command.{mode_of}
 use Rattle.packet.specs.Packet.{hello_resp_of}
 use Rattle.packet.proofs.Laws.{as_resp, read_as}

@@ -1,7 +1,6 @@
 -- `packet::kind_of` meets its contract: short, or read. Assumes nothing.
 use mathlib.Core.Path.{sym, ◌∙◌}
 use native.Mathlib.Omega.{arith}
-use borrow.Author.Rules.{rules}
 use Rattle.packet.proofs.Laws.{least_fits, short_body, whole_body}
 use Rattle.packet.proofs.kind_of.Goals as goal
 

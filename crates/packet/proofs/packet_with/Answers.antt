@@ -1,7 +1,6 @@
 -- `packet::packet_with` meets its contract: by the body. Assumes nothing.
 use mathlib.Core.Path.{◌≡◌, refl}
 use Rattle.packet.specs.declared.Body.TheVariants as Y
-use borrow.Author.Rules.{rules}
 use Rattle.packet.proofs.packet_with.Goals as goal
 
 pub returns-in-Is : goal.returns-in-Is

@@ -1,6 +1,5 @@
 -- `packet::read_data64` meets its contract: each field is read at its place. Assumes nothing.
 use mathlib.Core.Path.{refl}
-use borrow.Author.Rules.{rules}
 use Rattle.packet.proofs.read_data64.Goals as goal
 
 pub returns : goal.returns

@@ -1,6 +1,5 @@
 -- `packet::read_req` meets its contract: each word is read at its place. Assumes nothing.
 use mathlib.Core.Path.{refl}
-use borrow.Author.Rules.{rules}
 use Rattle.packet.proofs.read_req.Goals as goal
 
 pub returns : goal.returns

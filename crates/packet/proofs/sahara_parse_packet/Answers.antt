@@ -1,7 +1,6 @@
 -- `packet::sahara_parse_packet` meets its contract: below 8 bytes; else by the class of the first word. Assumes nothing.
 use mathlib.Core.Path.{◌∙◌}
 use native.Mathlib.Omega.{arith}
-use borrow.Author.Rules.{rules}
 use Rattle.command.specs.Command.{class_of}
 use Rattle.base.proofs.Telling.{tells}
 use Rattle.packet.specs.Packet.{by_class}

@@ -1,6 +1,5 @@
 -- `packet::six_words` meets its contract: each word is read at its place. Assumes nothing.
 use mathlib.Core.Path.{refl}
-use borrow.Author.Rules.{rules}
 use Rattle.packet.proofs.six_words.Goals as goal
 
 pub returns : goal.returns

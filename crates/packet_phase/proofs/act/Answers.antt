@@ -1,6 +1,5 @@
 -- `packet_phase::act` meets its contract: by the verdict, each case by what its callees ensure. Assumes nothing.
 use mathlib.Core.Path.{refl}
-use borrow.Author.Rules.{rules}
 use Rattle.packet_phase.proofs.act.Goals as goal
 
 pub returns-in-Reply : goal.returns-in-Reply

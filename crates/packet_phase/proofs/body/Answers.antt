@@ -10,7 +10,6 @@ use lib.Seq.{length-take-le}
 use Rattle.packet.specs.Packet.{bad_length}
 use Rattle.session.specs.PacketPhase.{sized_of}
 use Rattle.limits.proofs.Laws.{good_length, refused_length}
-use borrow.Author.Rules.{rules}
 use Rattle.packet_phase.proofs.body.Goals as goal
 use Rattle.packet_phase.proofs.body.Goals.{In-Good}
 

@@ -6,7 +6,6 @@ use native.Mathlib.Omega.{arith}
 use lib.ListN.{length}
 use Rattle.packet_phase.proofs.Laws.{copy_kept}
 use Rattle.copy.specs.Copy.{copied}
-use borrow.Author.Rules.{rules}
 use Rattle.packet_phase.proofs.kept.Goals as goal
 
 pub returns : goal.returns

@@ -6,7 +6,6 @@ use native.Mathlib.Omega.{arith}
 use borrow.Author.Tests.{lt-ltb, le-ltb}
 use lib.ListN.{length}
 use Rattle.session.specs.PacketPhase.{packet_of}
-use borrow.Author.Rules.{rules}
 use Rattle.packet_phase.proofs.packet.Goals as goal
 
 pub returns-then-n-rest : goal.returns-then-n-rest

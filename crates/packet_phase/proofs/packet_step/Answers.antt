@@ -4,7 +4,6 @@ use Rattle.session.specs.Answers.{outcome_told}
 use Rattle.session.specs.declared.Phase.TheVariants as P
 use Rattle.session.specs.Guard.{packet_step}
 use Rattle.turn.proofs.Laws.{passed, guard_refused, guard_passed}
-use borrow.Author.Rules.{rules}
 use Rattle.packet_phase.proofs.packet_step.Goals as goal
 
 pub returns-then-why-ne0 : goal.returns-then-why-ne0

@@ -5,7 +5,6 @@ use native.Mathlib.Omega.{arith}
 use Rattle.build.proofs.Laws.{build_long}
 use Rattle.build.specs.Build.{size_of, front, BuildOutcome, build_outcome}
 use Rattle.build.specs.declared.Built.TheVariants as T
-use borrow.Author.Rules.{rules}
 use Rattle.packet_phase.proofs.sent.Goals as goal
 use Rattle.packet_phase.proofs.sent.Goals.{After-build}
 

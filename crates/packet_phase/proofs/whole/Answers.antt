@@ -9,7 +9,6 @@ use Rattle.packet.specs.Packet.{length_field}
 use Rattle.packet_phase.proofs.Laws.{window_take}
 use Rattle.verdict.specs.Verdict.{verdict_of}
 use Rattle.session.specs.PacketPhase.{acted, whole_of}
-use borrow.Author.Rules.{rules}
 use Rattle.packet_phase.proofs.whole.Goals as goal
 
 pub slice_bounds-judge-end : goal.slice_bounds-judge-end

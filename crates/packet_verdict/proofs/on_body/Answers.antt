@@ -1,6 +1,5 @@
 -- `packet_verdict::on_body` meets its contract: by the kind. Assumes nothing.
 use mathlib.Core.Path.{refl}
-use borrow.Author.Rules.{rules}
 use Rattle.packet_verdict.proofs.on_body.Goals as goal
 
 pub returns-in-HelloReq : goal.returns-in-HelloReq

@@ -2,7 +2,6 @@
 use mathlib.Core.Path.{ap, ◌∙◌}
 use Prim.Native.Nat.{ℕ}
 use Rattle.raw_packet.specs.RawPacket.{plain_packet}
-use borrow.Author.Rules.{rules}
 use Rattle.raw_packet.proofs.execute.Goals as goal
 
 pub returns : goal.returns

@@ -1,6 +1,5 @@
 -- `raw_packet::hello` meets its contract: field by field. Assumes nothing.
 use mathlib.Core.Path.{refl}
-use borrow.Author.Rules.{rules}
 use Rattle.raw_packet.proofs.hello.Goals as goal
 
 pub returns : goal.returns

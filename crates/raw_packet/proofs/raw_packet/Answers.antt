@@ -2,7 +2,6 @@
 use mathlib.Core.Path.{◌≡◌, sym, ap, ◌∙◌}
 use Rattle.raw_packet.specs.RawPacket.{raw_packet}
 use Rattle.packet.specs.declared.Decoded.TheVariants as D
-use borrow.Author.Rules.{rules}
 use Rattle.raw_packet.proofs.raw_packet.Goals as goal
 
 pub returns-in-Is : goal.returns-in-Is

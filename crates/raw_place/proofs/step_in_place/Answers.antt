@@ -2,7 +2,7 @@
 -- looks at none (`lent_empty`). Assumes nothing.
 use mathlib.Core.Path.{◌≡◌, refl, sym, ap, ◌∙◌}
 use mathlib.Core.Bool.{true, false}
-use mathlib.Core.List.{List, [], ◌∷◌}
+use mathlib.Core.List.{List, ◌∷◌}
 use types.Run.{miss}
 use Prim.Native.Nat.{ℕ}
 use borrow.Author.Tests.{not-false}
@@ -22,7 +22,6 @@ use Rattle.raw.specs.Raw.{opening_of, width_of, told_of, stepped_at}
 use Rattle.in_place.specs.Place.{raw_at, in_region, region_at}
 use Rattle.raw_step.specs.RawStep.{raw_outcome, step_raw}
 use Rattle.raw_place.proofs.Repeats.{no, counts_are, waits_are, lent_empty}
-use borrow.Author.Rules.{rules}
 use Rattle.raw_place.proofs.step_in_place.Goals as goal
 use Rattle.raw_place.proofs.step_in_place.Goals.{After-advance_region-a, Start}
 

@@ -1,10 +1,8 @@
 -- `raw_place::wanted_in_place` meets its contract: in a region by its numbers, else what is read is the session in place. Assumes nothing.
-use mathlib.Core.Path.{◌≡◌, sym, ap, ◌∙◌}
+use mathlib.Core.Path.{sym, ap, ◌∙◌}
 use Rattle.raw_step.specs.RawStep.{wanted_raw}
 use Rattle.raw_place.proofs.Repeats.{wanted_none, wanted_at}
-use borrow.Author.Rules.{rules}
 use Rattle.raw_place.proofs.wanted_in_place.Goals as goal
-use Rattle.raw_place.proofs.wanted_in_place.Goals.{After-in_region, Start}
 
 pub returns-then-in_region : goal.returns-then-in_region
 returns-then-in_region c =

@@ -1,8 +1,7 @@
 -- `raw_step::step` meets its contract: by the two checks, then by whether the numbers are a session's, then the phase's own contract. Assumes nothing.
 use mathlib.Core.Path.{◌≡◌, sym, ap, ◌∙◌}
-use mathlib.Core.Bool.{Bool, true, false}
+use mathlib.Core.Bool.{true, false}
 use Prim.Native.Nat.{ℕ}
-use borrow.Author.Tests.{not-true, not-false}
 use Rattle.bundle.specs.Bundle.{well_formed}
 use Rattle.bundle.proofs.Laws.{checked_good, checked_refused}
 use Rattle.session.specs.declared.Answer.TheVariants as A
@@ -15,7 +14,6 @@ use Rattle.raw.specs.Raw.{phase_of, session_of, is_session, told_of, stepped_at}
 use Rattle.in_place.specs.Place.{raw_at}
 use Rattle.raw_step.specs.RawStep.{raw_outcome, raw_outcome_of}
 use Rattle.raw_step.proofs.Laws.{step_images, step_names, step_none, step_formed}
-use borrow.Author.Rules.{rules}
 use Rattle.raw_step.proofs.step.Goals as goal
 
 -- Each answer names the session that stood in place (h), what its bundles were found to be (m, n) and whether it is a session (q).

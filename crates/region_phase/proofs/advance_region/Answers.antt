@@ -5,7 +5,6 @@ use borrow.Author.Tests.{lt-ltb, le-ltb, ltb-false}
 use Rattle.field.specs.Field.{field_size}
 use Rattle.region_phase.specs.Advance.{advance_of}
 use Rattle.region_phase.proofs.Laws.{region_within, none_done}
-use borrow.Author.Rules.{rules}
 use Rattle.region_phase.proofs.advance_region.Goals as goal
 
 pub returns-then-out-lt48 : goal.returns-then-out-lt48

@@ -1,8 +1,6 @@
 -- `region_phase::advance_within` meets its contract: test by test. Assumes nothing.
-use mathlib.Core.Path.{◌≡◌}
 use borrow.Author.Tests.{eq-eqb, ne_eqb, le-leb, lt-leb}
 use Rattle.region_phase.specs.Advance.{advance_within}
-use borrow.Author.Rules.{rules}
 use Rattle.region_phase.proofs.advance_within.Goals as goal
 
 pub returns-then-due : goal.returns-then-due

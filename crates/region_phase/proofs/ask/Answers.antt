@@ -6,7 +6,6 @@ use native.Mathlib.Numerals.{add-one}
 use Rattle.build.specs.Build.{BuildOutcome}
 use Rattle.build.specs.declared.Request.TheVariants as Q
 use Rattle.build.proofs.Laws.{build_long}
-use borrow.Author.Rules.{rules}
 use Rattle.field.proofs.Laws.{memory_most}
 use Rattle.region_phase.proofs.ask.Goals as goal
 

@@ -12,7 +12,6 @@ use Rattle.entry.proofs.Laws.{there_fits}
 use Rattle.filename.specs.Filename.{after_open_check}
 use Rattle.session.specs.RegionPhase.{next_chunk, name_in}
 use Rattle.turn.proofs.Laws.{entry_told}
-use borrow.Author.Rules.{rules}
 use Rattle.region_phase.proofs.begin_region.Goals as goal
 use Rattle.region_phase.proofs.begin_region.Goals.{After-check_after_open-check}
 

@@ -1,6 +1,5 @@
 -- `region_phase::close` meets its contract: the next entry has a number. Assumes nothing.
 use native.Mathlib.Numerals.{add-one}
-use borrow.Author.Rules.{rules}
 use Rattle.region_phase.proofs.close.Goals as goal
 
 pub returns : goal.returns

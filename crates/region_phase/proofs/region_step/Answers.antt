@@ -23,7 +23,6 @@ use Rattle.region_phase.proofs.Laws.{
   begins≢to,
   next_fits,
 }
-use borrow.Author.Rules.{rules}
 use Rattle.region_phase.proofs.region_step.Goals as goal
 use Rattle.region_phase.proofs.region_step.Goals.{After-advance_region-a}
 

@@ -3,7 +3,6 @@ use mathlib.Core.Path.{sym, ◌∙◌}
 use native.Mathlib.Omega.{arith}
 use Rattle.filename.proofs.Laws.{length_before}
 use Rattle.sheet.proofs.Laws.{column_printed, column_blank}
-use borrow.Author.Rules.{rules}
 use Rattle.sheet.proofs.column.Goals as goal
 
 pub bounds-name-j : goal.bounds-name-j

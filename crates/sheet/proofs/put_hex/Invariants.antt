@@ -1,12 +1,9 @@
 -- `sheet::put_hex` meets its contract. The loop's invariant: with the j digits of what is left stored too, the page is what it is to be. Assumes nothing.
-use mathlib.Core.Path.{◌≡◌, refl, sym, ◌∙◌}
-use Prim.Native.Nat.{ℕ, suc, ◌-◌, ◌≤◌}
-use native.Mathlib.Omega.{arith}
-use lib.ListN.{length, length-set}
+use mathlib.Core.Path.{◌≡◌}
+use Prim.Native.Nat.{◌≤◌}
+use lib.ListN.{length}
 use lib.Seq.{sets}
 use Rattle.sheet.specs.Sheet.{hex}
-use Rattle.sheet.proofs.Laws.{hex_stored}
-use borrow.Author.Rules.{rules}
 use Rattle.sheet.proofs.put_hex.Given as goal
 
 abbrev pub invariant-loop-j : goal.invariant-loop-j

@@ -1,7 +1,7 @@
 -- `sheet::put_lines` meets its contract. The loop's invariant: the first i lines are stored, and the length is kept. Assumes nothing.
 use mathlib.Core.Path.{◌≡◌, refl, sym, ap, ◌∙◌}
 use mathlib.Core.List.{List}
-use Prim.Native.Nat.{ℕ, suc, ◌-◌, ◌*◌, ◌≤◌}
+use Prim.Native.Nat.{ℕ, suc, ◌*◌}
 use native.Mathlib.Numerals.{add-one}
 use native.Mathlib.Omega.{arith}
 use lib.ListN.{length}
@@ -13,7 +13,6 @@ use Rattle.entry.specs.declared.RamdumpTable64.{RamdumpTable64}
 use Rattle.entry.proofs.Laws.{entry_found}
 use Rattle.sheet.specs.Sheet.{line_of, lines_of}
 use Rattle.sheet.proofs.Laws.{lines_more}
-use borrow.Author.Rules.{rules}
 use Rattle.sheet.proofs.put_lines.Goals as goal
 
 pub loop-i-init : goal.loop-i-init

@@ -1,7 +1,7 @@
 -- `sheet::put_name` meets its contract. The loop's invariant: the first j columns are stored, and the length is kept. Assumes nothing.
 use mathlib.Core.Path.{◌≡◌, refl, sym, ap, ◌∙◌}
 use mathlib.Core.List.{List}
-use Prim.Native.Nat.{ℕ, suc, ◌+◌, ◌-◌, ◌≤◌}
+use Prim.Native.Nat.{ℕ, suc, ◌+◌}
 use native.Mathlib.Numerals.{add-one}
 use native.Mathlib.Omega.{arith}
 use lib.ListN.{length, get_or, take, set, length-set}
@@ -9,7 +9,6 @@ use lib.Seq.{sets, take_all}
 use Rattle.sheet.specs.Sheet.{columns}
 use Rattle.base.proofs.Lists.{sets_take_more}
 use Rattle.sheet.proofs.Laws.{length_columns}
-use borrow.Author.Rules.{rules}
 use Rattle.sheet.proofs.put_name.Goals as goal
 
 pub loop-j-init : goal.loop-j-init

@@ -9,7 +9,6 @@ use Rattle.field.specs.Field.{field_size}
 use Rattle.entry.specs.Entry.{entries_in}
 use Rattle.sheet.specs.Sheet.{lines_of, sheet_bytes, sheet_size}
 use Rattle.sheet.proofs.Laws.{refuses, writes}
-use borrow.Author.Rules.{rules}
 use Rattle.sheet.proofs.region_sheet.Goals as goal
 
 pub returns-then-page-n : goal.returns-then-page-n

@@ -1,5 +1,4 @@
 -- `utf8::valid` meets its contract. The constants' rule is computed at all 256 bytes, where they are lent. Assumes nothing.
-use borrow.Author.Rules.{rules}
 use Rattle.utf8.specs.Utf8.{table, leads, after_first}
 use Rattle.utf8.specs.Classes.{lead_of, class_of}
 use Rattle.utf8.proofs.Computed.{rule_of}

@@ -9,7 +9,6 @@ use Rattle.sheet.specs.Sheet.{sheet_outcome, sheet_of}
 use Rattle.sheet.specs.declared.Sheet.TheVariants as S
 use Rattle.raw.specs.Raw.{width_of, is_width}
 use Rattle.worgesli.specs.Worgesli.{crossed, sheet_raw}
-use borrow.Author.Rules.{rules}
 use Rattle.worgesli.proofs.worgesli_region_sheet.Goals as goal
 
 no-width : (t : List ℕ) (n : ℕ) (p : List ℕ) → is_width n ≡ false → sheet_outcome (S.Made 0) p ≡ sheet_raw t n p

@@ -3,7 +3,6 @@ use mathlib.Core.Path.{ap}
 use Rattle.build.specs.Build.{BuildOutcome}
 use Rattle.raw_records.specs.Records.{built_number}
 use Rattle.worgesli.specs.Worgesli.{reset_outcome, reset_raw}
-use borrow.Author.Rules.{rules}
 use Rattle.worgesli.proofs.worgesli_reset.Goals as goal
 
 pub returns : goal.returns

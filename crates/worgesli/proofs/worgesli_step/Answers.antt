@@ -4,7 +4,6 @@ use Rattle.raw.specs.declared.RawSession.{RawSession}
 use Rattle.raw.specs.declared.RawStepped.{RawStepped}
 use Rattle.raw.specs.Raw.{stepped_at}
 use Rattle.raw_step.specs.RawStep.{raw_outcome}
-use borrow.Author.Rules.{rules}
 use Rattle.worgesli.proofs.worgesli_step.Goals as goal
 
 pub returns : goal.returns

@@ -1,7 +1,6 @@
 -- `worgesli_tidy` meets its contract: the two calls, one after the other. Assumes nothing.
 use mathlib.Core.Path.{ap}
 use Rattle.worgesli.specs.Worgesli.{tidy_raw}
-use borrow.Author.Rules.{rules}
 use Rattle.worgesli.proofs.worgesli_tidy.Goals as goal
 
 pub returns : goal.returns
