@@ -1,5 +1,6 @@
 -- `filename::find` meets its contract. The invariant: `i` and the bytes before the first `b` from there on are those before the first `b`.
 -- Assumes nothing.
+use mathlib.Core.List.{[]}
 use mathlib.Core.Path.{◌≡◌}
 use native.Mathlib.Omega.{arith}
 use native.Mathlib.Numerals.{add-one}

@@ -2,7 +2,7 @@
 -- looks at none (`lent_empty`). Assumes nothing.
 use mathlib.Core.Path.{◌≡◌, refl, sym, ap, ◌∙◌}
 use mathlib.Core.Bool.{true, false}
-use mathlib.Core.List.{List, ◌∷◌}
+use mathlib.Core.List.{List, ◌∷◌, []}
 use types.Run.{miss}
 use Prim.Native.Nat.{ℕ}
 use borrow.Author.Tests.{not-false}

@@ -1,4 +1,5 @@
 -- `utf8::sequences` meets its contract. The invariant: the bytes from `i` on say of the text what the whole says. Assumes nothing.
+use mathlib.Core.List.{[]}
 use mathlib.Core.Path.{◌≡◌, refl, sym, ◌∙◌}
 use Prim.Native.Nat.{◌-◌, ◌<◌, ◌≤◌}
 use native.Mathlib.Omega.{arith}
