@@ -7,11 +7,11 @@ use Rattle.session.specs.declared.Phase.{Phase}
 use Rattle.session.specs.declared.Phase.TheVariants as P
 use Rattle.session.specs.declared.Session.{Session}
 use Rattle.session.specs.declared.Answer.TheVariants as A
-use Rattle.session.specs.Outcome.{held_in, holding}
+use Rattle.session.specs.Outcome.{opened_with, held_in, holding}
 use Rattle.session.specs.PacketPhase.{keep}
 use Rattle.fetch.specs.Plain.{Setting}
 use Rattle.session.specs.Step.{step_of}
-use Rattle.fetch.specs.Device.{Host, Given, given_of, opened_with, Lent, start}
+use Rattle.fetch.specs.Device.{Host, Given, given_of, Lent, start}
 use Rattle.fetch.specs.Wrong.{giving}
 use Rattle.division.specs.Over.{RunOver}
 use Rattle.division.specs.Claim.{in_packet, Divided}
