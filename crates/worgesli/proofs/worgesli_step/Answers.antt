@@ -9,7 +9,7 @@ use Rattle.worgesli.proofs.worgesli_step.Goals as goal
 pub returns : goal.returns
 returns c =
     let s = c.step-told in
-    let l = s.new.1.1.1.1.1.1 in
-    ap (λ (z : RawStepped). raw_outcome z l.0 l.1.0 l.1.1.0)
+    let l = s.new in
+    ap (λ (z : RawStepped). raw_outcome z l.table l.reply l.out)
     (c.stepped_at.ensures ∙ ap (λ (z : RawSession). stepped_at z s.result) c.raw_at.ensures)
     ∙ s.ensures
