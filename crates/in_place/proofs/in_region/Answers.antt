@@ -5,14 +5,11 @@ use Rattle.in_place.proofs.in_region.Goals as goal
 
 pub returns-then-is_width : goal.returns-then-is_width
 returns-then-is_width c =
-    let w = c in
-    let i = c in
-    simp (eq-eqb _ _ i.if-head-eq-REGION.true, lt-ltb _ _ i.if-numbers-lt2.true, sym w.is_width.ensures ∙ w.if-is_width.true) c.is_opening.ensures
+    simp (eq-eqb _ _ c.if-head-eq-REGION.true, lt-ltb _ _ c.if-numbers-lt2.true, sym c.is_width.ensures ∙ c.if-is_width.true) c.is_opening.ensures
 
 pub returns-else-is_width : goal.returns-else-is_width
 returns-else-is_width c =
-    let i = c in
-    simp (eq-eqb _ _ i.if-head-eq-REGION.true, lt-ltb _ _ i.if-numbers-lt2.true, sym c.is_width.ensures ∙ c.if-is_width.false)
+    simp (eq-eqb _ _ c.if-head-eq-REGION.true, lt-ltb _ _ c.if-numbers-lt2.true, sym c.is_width.ensures ∙ c.if-is_width.false)
 
 pub returns-else-numbers-lt2 : goal.returns-else-numbers-lt2
 returns-else-numbers-lt2 c = simp (eq-eqb _ _ c.if-head-eq-REGION.true, le-ltb _ _ c.if-numbers-lt2.false)

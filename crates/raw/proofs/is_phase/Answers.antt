@@ -1,5 +1,6 @@
 -- `raw::is_phase` meets its contract: each phase's number computes, and any other is none of them. Assumes nothing.
 use mathlib.Core.Path.{refl, ◌∙◌}
+use native.Mathlib.Omega.{arith}
 use Rattle.raw.proofs.Tests.{other_none}
 use Rattle.raw.specs.Raw.{is_phase}
 use Rattle.raw.proofs.is_phase.Goals as goal
@@ -34,5 +35,4 @@ returns-in-6 c = c.no_place-in-6.ensures ∙ rw c.in-6.is refl
 
 pub returns-in_default : goal.returns-in_default
 returns-in_default c =
-    let h = c.in_default.in_default-own.rest in
-    other_none c.args.r h.0.0.0.0.0.0.1 h.0.0.0.0.0.1 h.0.0.0.0.1 h.0.0.0.1 h.0.0.1 h.0.1 h.1
+    other_none c.args.r (omega arith) (omega arith) (omega arith) (omega arith) (omega arith) (omega arith) (omega arith)

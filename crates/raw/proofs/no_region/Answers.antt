@@ -14,14 +14,8 @@ returns-then-r-ne0-3 c = simp (eq-eqb _ _ c.if-r-ne0.false, eq-eqb _ _ c.if-r-ne
 
 pub returns-then-r-ne0-4 : goal.returns-then-r-ne0-4
 returns-then-r-ne0-4 c =
-    let d = c in
-    let l = c in
-    simp (eq-eqb _ _ l.if-r-ne0.false, eq-eqb _ _ l.if-r-ne0-2.false, eq-eqb _ _ d.if-r-ne0-3.false, ne_eqb _ _ c.if-r-ne0-4.true)
+    simp (eq-eqb _ _ c.if-r-ne0.false, eq-eqb _ _ c.if-r-ne0-2.false, eq-eqb _ _ c.if-r-ne0-3.false, ne_eqb _ _ c.if-r-ne0-4.true)
 
 pub returns : goal.returns
 returns c =
-    let o = c in
-    let d = c in
-    let l = c in
-    let b = c in
-    only_due b.args.r b.if-r-ne0.false l.if-r-ne0-2.false d.if-r-ne0-3.false o.if-r-ne0-4.false
+    only_due c.args.r c.if-r-ne0.false c.if-r-ne0-2.false c.if-r-ne0-3.false c.if-r-ne0-4.false

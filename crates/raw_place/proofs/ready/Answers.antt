@@ -4,8 +4,7 @@ use Rattle.raw_place.proofs.ready.Goals as goal
 
 pub returns-then-in_region : goal.returns-then-in_region
 returns-then-in_region c =
-    let i = c in
-    rw (sym i.in_region.ensures ∙ i.if-in_region.true) c.formed.ensures
+    rw (sym c.in_region.ensures ∙ c.if-in_region.true) c.formed.ensures
 
 pub returns : goal.returns
 returns c = simp (sym c.in_region.ensures ∙ c.if-in_region.false)

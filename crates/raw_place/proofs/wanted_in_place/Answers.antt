@@ -6,16 +6,13 @@ use Rattle.raw_place.proofs.wanted_in_place.Goals as goal
 
 pub returns-then-in_region : goal.returns-then-in_region
 returns-then-in_region c =
-    let g = c in
-    let i = c in
     let a = c.args in
-    c.waits_at.ensures ∙ wanted_at a.head.now a.numbers.now a.window.now (sym i.in_region.ensures ∙ g.if-in_region.true)
+    c.waits_at.ensures ∙ wanted_at a.head.now a.numbers.now a.window.now (sym c.in_region.ensures ∙ c.if-in_region.true)
 
 pub returns-then-head-eq-REGION : goal.returns-then-head-eq-REGION
 returns-then-head-eq-REGION c =
-    let i = c in
     let a = c.args in
-    wanted_none a.head.now a.numbers.now a.window.now i.if-head-eq-REGION.true (sym i.in_region.ensures ∙ c.if-in_region.false)
+    wanted_none a.head.now a.numbers.now a.window.now c.if-head-eq-REGION.true (sym c.in_region.ensures ∙ c.if-in_region.false)
 
 pub returns : goal.returns
 returns c = c.wanted.ensures ∙ ap wanted_raw c.raw_at.ensures

@@ -36,18 +36,17 @@ overflow_add-sum c =
 
 pub loop-i-preserved : goal.loop-i-preserved
 loop-i-preserved c =
-    let w = c in
-    let l = w.loop-i in
-    let a = w.args in
+    let l = c.loop-i in
+    let a = c.args in
     let B : List ℕ = a.set.now in
     let e : l.sum + c.size_at-sum.result ≡ length (data_of (first_contents B (suc l.i))) =
     omega (arith, c.size_at-sum.ensures, l.invariant.2, data_grows B l.i) in
-    let y : w.put_content.new.to ≡ sets a.to.now a.at (data_of (first_contents B (suc l.i))) =
-    w.put_content.ensures
+    let y : c.put_content.new.to ≡ sets a.to.now a.at (data_of (first_contents B (suc l.i))) =
+    c.put_content.ensures
     ∙ ap (λ (k : ℕ). sets l.to (a.at + k) (bytes_in (content_of B l.i))) l.invariant.2
     ∙ ap (λ (d : List ℕ). sets d (a.at + length (data_of (first_contents B l.i))) (bytes_in (content_of B l.i))) l.invariant.3
     ∙ sym (data_stored B a.to.now a.at l.i) in
-    (omega arith, ap length w.put_content.ensures ∙ rw length-sets l.invariant.1, rw add-one e, rw add-one y)
+    (omega arith, ap length c.put_content.ensures ∙ rw length-sets l.invariant.1, rw add-one e, rw add-one y)
 
 pub returns : goal.returns
 returns c =

@@ -25,16 +25,14 @@ overflow_cast-size_at c =
 
 pub loop-i-preserved : goal.loop-i-preserved
 loop-i-preserved c =
-    let w = c in
-    let s = c in
-    let l = s.loop-i in
-    let a = s.args in
+    let l = c.loop-i in
+    let a = c.args in
     let B : List ℕ = a.set.now in
-    let x : w.put_u32.new.d ≡ sets l.to (a.at + 4 * l.i) (le_bytes 4 s.size_at.result) =
-    ap (λ (y : Written). y.bytes) (w.put_u32.ensures ∙ put_done _ _ _ _ (omega arith)) in
-    let y : w.put_u32.new.d ≡ sets a.to.now a.at (words (map size_in (first_contents B (suc l.i)))) =
+    let x : c.put_u32.new.d ≡ sets l.to (a.at + 4 * l.i) (le_bytes 4 c.size_at.result) =
+    ap (λ (y : Written). y.bytes) (c.put_u32.ensures ∙ put_done _ _ _ _ (omega arith)) in
+    let y : c.put_u32.new.d ≡ sets a.to.now a.at (words (map size_in (first_contents B (suc l.i)))) =
     x
-    ∙ ap (λ (k : ℕ). sets l.to (a.at + 4 * l.i) (le_bytes 4 k)) s.size_at.ensures
+    ∙ ap (λ (k : ℕ). sets l.to (a.at + 4 * l.i) (le_bytes 4 k)) c.size_at.ensures
     ∙ ap (λ (d : List ℕ). sets d (a.at + 4 * l.i) (le_bytes 4 (size_in (content_of B l.i)))) l.invariant.2
     ∙ sym (lengths_stored B a.to.now a.at l.i) in
     (omega arith, ap length x ∙ rw length-sets l.invariant.1, rw add-one y)

@@ -32,18 +32,16 @@ overflow_add-sum c =
 
 pub loop-i-preserved : goal.loop-i-preserved
 loop-i-preserved c =
-    let w = c in
-    let s = c in
-    let l = s.loop-i in
-    let a = s.args in
+    let l = c.loop-i in
+    let a = c.args in
     let B : List ℕ = a.set.now in
-    let x : w.put_u32.new.d ≡ sets l.to (8 + 4 * l.i) (le_bytes 4 s.start_at.result) =
-    ap (λ (y : Written). y.bytes) (w.put_u32.ensures ∙ put_done _ _ _ _ (omega arith)) in
-    let v : s.start_at.result ≡ start_for (length (data_of (first_contents B l.i))) (content_of B l.i) =
-    s.start_at.ensures ∙ ap (λ (k : ℕ). start_for k (content_of B l.i)) l.invariant.2 in
+    let x : c.put_u32.new.d ≡ sets l.to (8 + 4 * l.i) (le_bytes 4 c.start_at.result) =
+    ap (λ (y : Written). y.bytes) (c.put_u32.ensures ∙ put_done _ _ _ _ (omega arith)) in
+    let v : c.start_at.result ≡ start_for (length (data_of (first_contents B l.i))) (content_of B l.i) =
+    c.start_at.ensures ∙ ap (λ (k : ℕ). start_for k (content_of B l.i)) l.invariant.2 in
     let e : l.sum + c.size_at-sum.result ≡ length (data_of (first_contents B (suc l.i))) =
     omega (arith, c.size_at-sum.ensures, l.invariant.2, data_grows B l.i) in
-    let y : w.put_u32.new.d ≡ sets a.to.now 8 (words (starts_from 0 (first_contents B (suc l.i)))) =
+    let y : c.put_u32.new.d ≡ sets a.to.now 8 (words (starts_from 0 (first_contents B (suc l.i)))) =
     x
     ∙ ap (λ (k : ℕ). sets l.to (8 + 4 * l.i) (le_bytes 4 k)) v
     ∙ ap

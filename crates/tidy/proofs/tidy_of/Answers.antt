@@ -60,10 +60,8 @@ put_form-requires c =
 
 pub returns : goal.returns
 returns c =
-    let w = c in
-    let s = c in
-    let a = s.args in
+    let a = c.args in
     let B : List ℕ = a.set.now in
-    let x : w.put_form.new.to ≡ sets a.to.now 0 (tidy_bytes B) =
-    w.put_form.ensures ∙ ap (λ (k : ℕ). sets a.to.now 0 (bundle_bytes (first_contents B k))) s.slot_count-n.ensures in
-    tidy_stored B a.to.now a.len w.put_form.new.to s.requires (omega arith) x
+    let x : c.put_form.new.to ≡ sets a.to.now 0 (tidy_bytes B) =
+    c.put_form.ensures ∙ ap (λ (k : ℕ). sets a.to.now 0 (bundle_bytes (first_contents B k))) c.slot_count-n.ensures in
+    tidy_stored B a.to.now a.len c.put_form.new.to c.requires (omega arith) x

@@ -9,5 +9,4 @@ returns-then-held-lt8 c = simp (lt-ltb _ _ c.if-held-lt8.true)
 
 pub returns : goal.returns
 returns c =
-    let l = c in
-    simp (le-ltb _ _ l.if-held-lt8.false) (c.rest.ensures ∙ ap (λ (n : ℕ). n - l.args.held) l.length_in-size.ensures)
+    simp (le-ltb _ _ c.if-held-lt8.false) (c.rest.ensures ∙ ap (λ (n : ℕ). n - c.args.held) c.length_in-size.ensures)

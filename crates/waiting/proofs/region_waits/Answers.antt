@@ -8,10 +8,8 @@ returns-then-x c = sym (waits_due c.args.x c.if-x.true)
 
 pub returns-then-x-eq0 : goal.returns-then-x-eq0
 returns-then-x-eq0 c =
-    let i = c in
-    sym (waits_none i.args.x i.if-x.false c.if-x-eq0.true)
+    sym (waits_none c.args.x c.if-x.false c.if-x-eq0.true)
 
 pub returns : goal.returns
 returns c =
-    let i = c in
-    sym (waits_some i.args.x i.if-x.false c.if-x-eq0.false)
+    sym (waits_some c.args.x c.if-x.false c.if-x-eq0.false)
