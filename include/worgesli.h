@@ -1,4 +1,4 @@
-/* Worgesli: a proved host of the Sahara protocol. C interface of libworgesli.a (x86-64 Linux; `rt staticlib worgesli`), for C11 and C++11.
+/* Worgesli: a proved host of the Sahara protocol. C interface of libworgesli.a (x86-64 Linux; `tools/archive`), for C11 and C++11.
  *
  * No function does input or output, keeps anything, or allocates. A byte string crosses as a pointer and a length; NULL with length 0 is allowed.
  * The caller sees to two things: a pointer has as many bytes as its length, or as its array, says, and what is not const overlaps no other argument.

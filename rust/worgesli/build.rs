@@ -22,7 +22,7 @@ fn main() {
             println!("cargo::rustc-link-lib=static=worgesli");
         }
         _ => println!(
-            "cargo::error={} is not there: run `rt staticlib worgesli` in the repository, or name the archive's folder in {NAME}",
+            "cargo::error={} is not there: run `tools/archive` in the repository, or name the archive's folder in {NAME}",
             archive.display()
         ),
     }

@@ -28,14 +28,13 @@ class Crates:
 
     def __init__(self, root):
         self.declared, self.words = {}, {}
-        for path in glob.glob(os.path.join(root, "crates/*/*/**/*.*t"), recursive=True):
+        for path in (path for kind in DECLARED for path in glob.glob(os.path.join(root, f"crates/*/{kind}/**/*.*t"), recursive=True)):
             _, crate, kind, *rest = os.path.relpath(path, root).split(os.sep)
-            if kind in DECLARED:
-                with open(path, encoding="utf-8") as file:
-                    self._read(crate, kind, rest[0], file.read())
+            with open(path, encoding="utf-8") as file:
+                self._read(crate, kind, rest[0], file.read())
 
     def _read(self, crate, kind, name, text):
-        """A file is crate/kind/File; the proof of a function, proofs/function/Proof.antt, is crate/proofs/function. All of src/ is one."""
+        """A file is crate/kind/File; the proof of a function, the files of proofs/function/, is crate/proofs/function. All of src/ is one."""
         code = "\n".join(line for line in text.split("\n") if not line.lstrip().startswith(("--", "//")))
         names = self.declared.setdefault((crate, kind, "" if kind == "src" else name.removesuffix(".antt")), set())
         for match in DECLARED[kind].finditer(code):
