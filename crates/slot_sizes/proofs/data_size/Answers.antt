@@ -19,6 +19,9 @@ returns-then-total-size c =
     let a = c.args in
     omega (arith, c.size_at-size.ensures, l.invariant.1, data_up_to a.set.now l.i a.n (omega arith))
 
+pub overflow_add-total : goal.overflow_add-total
+overflow_add-total c = omega arith
+
 pub loop-i-preserved : goal.loop-i-preserved
 loop-i-preserved c =
     let l = c.loop-i in
