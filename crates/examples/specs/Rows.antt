@@ -1,5 +1,5 @@
--- The computed table. Document 01, "Lengths, modes and stems": "To be proved together, as one computed table". An example has what the definitions give and what
--- 01 says, or document 02 where a request changed it. The theorem is `table` of proofs/Table.antt.
+-- The computed table. Document 01, "Lengths, modes and stems": "To be proved together, as one computed table". An example has what the definitions give and
+-- what 01 says, or document 02 where a request changed it. The theorem is `table` of proofs/Table.antt.
 use Rattle.std.specs.Prelude.{ℕ, ◌+◌, ◌-◌, ◌^◌, Bool, true, false, List, [], ◌∷◌, ◌++◌, length, replicate, take}
 use Rattle.base.specs.Choice.{pick}
 use Rattle.field.specs.Field.{le_bytes, field_size, fields, words}
@@ -246,7 +246,8 @@ rows =
     ∷ example (matches (selected 8 (name ddrcs0) (entry DDRCS0))) (matches false)
     ∷ []
 
--- what comes with that: a session opened with mode 1 answers with it, and still sends SwitchMode with 0; mode 4 stays 9; HelloResp of mode 1 is 10, Hello of 49 is 11
+-- what comes with that: a session opened with mode 1 answers with it, and still sends SwitchMode with 0; mode 4 stays 9; HelloResp of mode 1 is 10, Hello of 49
+-- is 11
 unfoldable pub mode_one : List Example
 mode_one =
     example (judged_in M.ImageTransferComplete (hello 48 1 [])) (sends (hello_resp 1))

@@ -1,5 +1,5 @@
--- From where a session has its table on, the table buffer stays as it is, to the end of any list and behind it: so the list that the table decodes to is the same
--- wherever it is decoded, of a session that has ended too. By the branches of a step, then by induction on the list. Assumes nothing.
+-- From where a session has its table on, the table buffer stays as it is, to the end of any list and behind it: so the list that the table decodes to is the
+-- same wherever it is decoded, of a session that has ended too. By the branches of a step, then by induction on the list. Assumes nothing.
 use mathlib.Core.Path.{◌≡◌, refl, ap, ◌∙◌}
 use mathlib.Core.Logic.{⊎_elim, ◌⊎◌, inl, inr}
 use mathlib.Core.Bool.{true, false, not}

@@ -159,7 +159,8 @@ module _ (u : Opening) (names : List ℕ) where
     owned : {X : Type 0} → ⊥ ⊎ X → X
     owned h = ⊎_elim (λ e. absurd e) (λ e. e) h
 
-    -- s being in the phase p: what is left is kept; the table stays, or the session ends; and finished (3), which ends it, tells the forecast's numbers of the table
+    -- s being in the phase p: what is left is kept; the table stays, or the session ends; and finished (3), which ends it, tells the forecast's numbers of the
+    -- table
     pub record Goes (p : Phase) (r : Outcome) : Type 0 where
       pub kept : Kept r.stepped.session (put r.table) (n + how_many is_opened (told_by r d set)) (m + how_many is_byte (told_by r d set))
       pub table : (es : List RamdumpTable64) → DecodesIn f p b es

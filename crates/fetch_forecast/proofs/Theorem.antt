@@ -1,5 +1,5 @@
--- The theorem: of any list of steps that finishes (3), the forecast of the table, wherever in the list it is decoded, is what the list comes to. By induction on
--- the list over the invariant of one step. Assumes nothing.
+-- The theorem: of any list of steps that finishes (3), the forecast of the table, wherever in the list it is decoded, is what the list comes to. By induction
+-- on the list over the invariant of one step. Assumes nothing.
 use mathlib.Core.Path.{◌≡◌, refl, sym, ap, subst, ◌∙◌}
 use mathlib.Core.Logic.{⊎_elim, ◌⊎◌, inl, inr}
 use mathlib.Core.Bool.{true, false}

@@ -1,8 +1,8 @@
 -- The forecast held against what a session comes to, of any host. Document 02, request 5: "Where nothing is refused here and a fresh session finishes (3), its
--- table decoded to this list and each unrefused step lent these names and the same table buffer, which nobody else writes, these equal the regions it opened, the
--- bytes it handed out and the memory reads it reported." The device may be any, true or not: in the world of fetch/specs/Device a step is delivered the queue's
--- first bytes or any others, and what it is lent besides (image set, reply and out buffer) may be another's in each step. The theorem, `Foretells definitions
--- Decodes`, is `foretold` of proofs/Theorem; through the C interface and from the exported function it stands in fetch_forecast_raw.
+-- table decoded to this list and each unrefused step lent these names and the same table buffer, which nobody else writes, these equal the regions it opened,
+-- the bytes it handed out and the memory reads it reported." The device may be any, true or not: in the world of fetch/specs/Device a step is delivered the
+-- queue's first bytes or any others, and what it is lent besides (image set, reply and out buffer) may be another's in each step. The theorem, `Foretells
+-- definitions Decodes`, is `foretold` of proofs/Theorem; through the C interface and from the exported function it stands in fetch_forecast_raw.
 use Rattle.std.specs.Prelude.{ℕ, ◌⊎◌, ◌≡◌, Bool, true, false, List, ◌∷◌, ◌++◌, T, take}
 use Rattle.field.specs.Field.{field_size}
 use Rattle.entry.specs.Entry.{entries_of}
@@ -43,8 +43,9 @@ is_byte (finished how r) = false
 
 -- ---- "its table decoded to this list"
 
--- a session has its table from its last byte until the session ends: the first k bytes of the table buffer b, as many as the memory debug told. f is the width of
--- an entry's numbers. (One that has ended tells no length of its table any more. Its buffer is as it was, whatever steps came: `buffer_stays` of proofs/Buffer)
+-- a session has its table from its last byte until the session ends: the first k bytes of the table buffer b, as many as the memory debug told. f is the width
+-- of an entry's numbers. (One that has ended tells no length of its table any more. Its buffer is as it was, whatever steps came: `buffer_stays` of
+-- proofs/Buffer)
 abbrev pub DecodesIn : ℕ → Phase → List ℕ → List RamdumpTable64 → Type 0
 DecodesIn f (P.Packet h) b es = ⊥
 DecodesIn f (P.Response x) b es = ⊥
@@ -82,8 +83,8 @@ pub record Comes (regions bytes reads k : ℕ) (l : List Report) : Type 0 where
   pub bytes_are : how_many is_byte l ≡ bytes
   pub reads_are : k ≡ reads
 
--- of every run, every list of steps, and every place in it (behind the steps `before`) where the host's state and the table buffer decode to a list. The forecast
--- counts with the session's own chunk
+-- of every run, every list of steps, and every place in it (behind the steps `before`) where the host's state and the table buffer decode to a list. The
+-- forecast counts with the session's own chunk
 abbrev pub Foretells : (h : Host) → (h.State → List ℕ → List RamdumpTable64 → Type 0) → Type 0
 Foretells h decodes =
     (c : Setting) (before after : List Lent)

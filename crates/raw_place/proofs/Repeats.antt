@@ -169,7 +169,8 @@ module _ (h n w : List ℕ) (e : in_region h n ≡ true) where
       let a = advance_of (width_of (get_or n 8 0)) (opening_of (get_or h 0 0) (get_or h 1 0) (get_or h 2 0)) (get_or n 0 0) (get_or n 1 0) (region_at n) (length d) t o in
       sym (put_is d (replicate 8 0) (replicate 8 0) t y o (empty_formed true) (empty_formed false) a refl) ∙ put_is d set names t y o f g a refl
 
--- ---- the premises can be met, of either width: a dump over USB with a chunk of the region done; nothing outstanding, bytes outstanding, an empty read due; and no byte came
+-- ---- the premises can be met, of either width: a dump over USB with a chunk of the region done; nothing outstanding, bytes outstanding, an empty read due;
+-- and no byte came
 abbrev counts : Advance → Bool
 counts (D.To c) = true
 counts D.Waits = false

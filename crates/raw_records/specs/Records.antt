@@ -1,6 +1,6 @@
--- A table entry, an image range, a check, a built packet, the answers of a region sheet and of a tidying and a forecast as plain numbers, as they cross to C and
--- Rust. Where something is refused, `refused` is its number in document 01, "Refusals", of a sheet in document 02, request 4, of a forecast in its request 5, of a
--- tidying in its request 6, and every other number is 0; no refusal has the number 0.
+-- A table entry, an image range, a check, a built packet, the answers of a region sheet and of a tidying and a forecast as plain numbers, as they cross to C
+-- and Rust. Where something is refused, `refused` is its number in document 01, "Refusals", of a sheet in document 02, request 4, of a forecast in its request
+-- 5, of a tidying in its request 6, and every other number is 0; no refusal has the number 0.
 use Rattle.std.specs.Prelude.{ℕ}
 use Rattle.base.specs.Choice.{pick}
 use Rattle.bundle.specs.declared.Checked.{Checked}

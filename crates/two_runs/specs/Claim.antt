@@ -2,7 +2,7 @@
 -- step given all else alike, where an image starts in its set aside." Two runs of any host, in the worlds of fetch/specs/Device: they begin in one world,
 -- whatever its session is (opened, made up, ended), its buffers and its queue, and each step of the list is lent the same in both, but that where the one
 -- is lent its own image set, the other is lent that set's tidy form. Steps may be refused, and be lent other things. The theorem, `ServesAlike
--- definitions`, is `serves-alike` of proofs/Theorem, and through the C interface `serves-alike-raw` of two_runs_raw/proofs/Raw.
+-- definitions`, is `serves_alike` of proofs/Theorem, and through the C interface `serves_alike_raw` of two_runs_raw/proofs/Raw.
 use Rattle.std.specs.Prelude.{ℕ, ◌≡◌, List, [], ◌∷◌}
 use Rattle.session.specs.declared.Answer.{Answer}
 use Rattle.session.specs.declared.Answer.TheVariants as A

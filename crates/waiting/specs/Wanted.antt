@@ -32,8 +32,8 @@ region_wants x = pick x.due 0 x.outstanding
 
 -- how many bytes are asked for, as the Rust's reads ask: of a packet its header, then what its length field leaves; what is missing of a response or a
 -- table; what is outstanding of a region. 0 where none are needed, and where more is there than was declared. Of a session within its limits: 0 exactly
--- where none are needed (`wanted_needs` of proofs/Waiting), and a step that 1, 2 or 3 does not refuse (`InOrder` of specs/Waiting), lent no more, takes all of it
--- (`takes_all`).
+-- where none are needed (`wanted_needs` of proofs/Waiting), and a step that 1, 2 or 3 does not refuse (`InOrder` of specs/Waiting), lent no more, takes all of
+-- it (`takes_all`).
 -- It is not the most that a step takes: one lent more than a header goes on to the packet's end
 abbrev pub wanted_in : List ℕ → Phase → ℕ
 wanted_in w (P.Packet h) = packet_wants w h

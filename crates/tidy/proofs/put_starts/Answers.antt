@@ -1,4 +1,5 @@
--- `tidy::put_starts` meets its contract. The loop's invariant: the starts of the first i slots are stored, and the sum is where the next one starts. Assumes nothing.
+-- `tidy::put_starts` meets its contract. The loop's invariant: the starts of the first i slots are stored, and the sum is where the next one starts. Assumes
+-- nothing.
 use mathlib.Core.Path.{◌≡◌, refl, sym, ap, ◌∙◌}
 use mathlib.Core.List.{List}
 use Prim.Native.Nat.{ℕ, suc, ◌+◌, ◌*◌}
