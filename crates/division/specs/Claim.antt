@@ -15,8 +15,7 @@ use Rattle.division.specs.Over.{Event, next_over, RunOver, events, owns_fed}
 
 -- ---- the undivided run
 
--- the steps that are enough, L + L / 8 of L bytes: one for each byte, and one more for each eight, which pay for the steps that take none. (One fewer is not:
--- `tight` of division_shown/proofs/Example)
+-- the steps that are enough, L + L / 8 of L bytes: one for each byte, and one more for each eight, which pay for the steps that take none.
 abbrev pub enough_over : Setting → ℕ
 enough_over c = length c.bytes + length c.bytes / 8
 

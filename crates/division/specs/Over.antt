@@ -51,7 +51,7 @@ module _ (h : Host) (c : Setting) where
   next_over w l = let r = made h c w l in world_after w l r (left l.delivery r.taken w.queue)
 
   -- lent the run's own things *and* (×) some of what is left of the string; *or* (⊎) refused with 1, 2, 3, 4 or 18, and then lent anything. Demand 3's fair steps
-  -- are such steps (`as-in-demand-3` of proofs/Corollaries): here a delivery may be empty at any time
+  -- are such steps (`in_demand_words` of proofs/Corollaries goes over to them): here a delivery may be empty at any time
   abbrev pub FairOver : World h.State → Lent → Type 0
   FairOver w l = (T (all_own l) × FromQueue l.delivery) ⊎ T (aside (made h c w l).answer)
 

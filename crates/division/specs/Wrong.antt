@@ -1,5 +1,5 @@
 -- Wrong hosts that do as the definitions' does where each packet, table and chunk comes in a delivery of its own, and not where a hub divides or joins them. The
--- claim is false of each (`Uneven`; division_shown/proofs/Refuted, by computed runs): it tells them from the host that is right.
+-- claim is to be false of each (`Uneven`).
 use Rattle.std.specs.Prelude.{ℕ, ◌+◌, Bool, true, false, ◌&&◌, List, ltb, leb, length}
 use Rattle.base.specs.Choice.{pick}
 use Rattle.packet.specs.Packet.{length_field, bad_length}

@@ -13,7 +13,7 @@ use feed::{Feed, Turned};
 use field::Width;
 use session::{Answer, Filling, Phase, Region, Session};
 use std::io;
-use std::io::{BufWriter, Read, Write};
+use std::io::{Read, Write};
 use verdict::{ExecCommand, QdlBackend};
 
 // What the words say; the session begins at 0, each other part where the one before it ends.
@@ -576,7 +576,7 @@ fn all<R: Read, W: Write>(
 
 fn main(rt: HostRuntime) -> io::Result<()> {
     let mut from = rt.stdin();
-    let mut to = BufWriter::new(rt.alloc(), rt.stdout())?;
+    let mut to = rt.stdout();
     let mut words = [0u8; 48];
     let mut input = [0u8; 131072];
     let mut table = [0u8; 65536];

@@ -2,6 +2,8 @@
 // bytes in hexadecimal (`-` for none) and numbers in hexadecimal. A line that starts with `#` is written again.
 #![tactic(auto)]
 
+ghost use Rattle.std.specs.Prelude.{◌≤◌, length, IfOk};
+
 mod bundles;
 mod forecasts;
 mod packets;
@@ -10,7 +12,7 @@ mod show;
 mod text;
 
 use std::io;
-use std::io::{BufWriter, Read, Write};
+use std::io::{Read, Write};
 
 fn packet_case<W: Write>(to: &mut W, letter: u8, line: &[u8]) -> io::Result<()> {
     match letter {
@@ -59,11 +61,26 @@ fn cases<W: Write>(to: &mut W, s: &[u8]) -> io::Result<()> {
     Ok(())
 }
 
+// Reads until the buffer is full or the input ends: how many bytes it put at the front.
+fn read_full<R: Read>(from: &mut R, buf: &mut [u8]) -> io::Result<usize>
+    ensures { IfOk result (λ n. n ≤ length buf.new) }
+{
+    let mut done = 0;
+    while done < buf.len() {
+        let n = from.read(&mut buf[done..])?;
+        if n == 0 {
+            break;
+        }
+        done += n;
+    }
+    Ok(done)
+}
+
 // The first 512 KiB of the input are read.
 fn main(rt: HostRuntime) -> io::Result<()> {
-    let mut input = Vec::new(rt.alloc());
-    rt.stdin().take(524288).read_to_end(&mut input)?;
-    let mut to = BufWriter::new(rt.alloc(), rt.stdout())?;
-    cases(&mut to, input.as_slice())?;
+    let mut input = [0u8; 524288];
+    let n = read_full(&mut rt.stdin(), &mut input)?;
+    let mut to = rt.stdout();
+    cases(&mut to, &input[..n])?;
     to.flush()
 }

@@ -4,7 +4,6 @@ use mathlib.Core.Bool.{true, false}
 use Prim.Native.Nat.{◌-◌}
 use native.Mathlib.Omega.{arith}
 use native.Mathlib.Nat.{sub-zero}
-use borrow.Author.Tests.{not-true, not-false}
 use Rattle.bundle.specs.Bundle.{slot_good, slots_good}
 use Rattle.bundle.proofs.Laws.{slots_step, slots_done}
 use Rattle.bundle.proofs.slots_good.Goals as goal
@@ -16,14 +15,14 @@ pub returns-then-not-slot_good : goal.returns-then-not-slot_good
 returns-then-not-slot_good c =
     let a = c.args in
     let l = c.loop-i in
-    let f : slot_good a.gaps a.b.now l.i ≡ false = sym c.slot_good.ensures ∙ not-true _ c.if-not-slot_good.true-raw in
+    let f : slot_good a.gaps a.b.now l.i ≡ false = sym c.slot_good.ensures ∙ c.if-not-slot_good.true in
     sym (l.invariant.1 ∙ slots_step a.gaps a.b.now a.n l.i (omega arith) ∙ simp f)
 
 pub loop-i-preserved : goal.loop-i-preserved
 loop-i-preserved c =
     let a = c.args in
     let l = c.loop-i in
-    let t : slot_good a.gaps a.b.now l.i ≡ true = sym c.slot_good.ensures ∙ not-false _ c.if-not-slot_good.false-raw in
+    let t : slot_good a.gaps a.b.now l.i ≡ true = sym c.slot_good.ensures ∙ c.if-not-slot_good.false in
     (omega arith, l.invariant.1 ∙ slots_step a.gaps a.b.now a.n l.i (omega arith) ∙ simp t)
 
 pub returns : goal.returns

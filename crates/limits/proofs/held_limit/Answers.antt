@@ -14,19 +14,19 @@ length-is : (c : After-sahara_read_packet_length) {x : LengthCheck} → c.sahara
 length-is c e = sym (c.sahara_read_packet_length.ensures.is ∙ ap length_checked c.length_in-size.ensures) ∙ e
 
 pub returns-then-held-gt4095 : goal.returns-then-held-gt4095
-returns-then-held-gt4095 c = simp (lt-ltb 4095 c.args.held (omega (arith, c.if-held-gt4095.true)))
+returns-then-held-gt4095 c = simp (lt-ltb 4095 c.args.held (omega arith))
 
 pub returns-then-held-lt8 : goal.returns-then-held-lt8
 returns-then-held-lt8 c =
     let h = c.args.held in
-    simp (le-ltb 4095 h (omega (arith, c.if-held-gt4095.false)), lt-leb 8 h (omega (arith, c.if-held-lt8.true)))
+    simp (le-ltb 4095 h (omega arith), lt-leb 8 h (omega (arith, c.if-held-lt8.true)))
 
 pub returns-in_default : goal.returns-in_default
 returns-in_default c =
     let e = c in
     let h = e.args.held in
     simp (
-      le-ltb 4095 h (omega (arith, e.if-held-gt4095.false)),
+      le-ltb 4095 h (omega arith),
       le-leb 8 h (omega (arith, e.if-held-lt8.false)),
       refused_length (bad_length (length_field e.args.window)) _ (length-is (goal.at.returns-in_default c).After-sahara_read_packet_length c.in_default.is),
     )
@@ -36,7 +36,7 @@ returns c =
     let e = c in
     let h = e.args.held in
     simp (
-      le-ltb 4095 h (omega (arith, e.if-held-gt4095.false)),
+      le-ltb 4095 h (omega arith),
       le-leb 8 h (omega (arith, e.if-held-lt8.false)),
       good_length (bad_length (length_field e.args.window)) (length-is (goal.at.returns c).After-sahara_read_packet_length c.in-Good.is),
       c.length_in-size.ensures,

@@ -3,7 +3,6 @@ use mathlib.Core.Path.{◌≡◌, refl, sym, ap, ◌∙◌}
 use mathlib.Core.Bool.{true, false}
 use mathlib.Core.List.{List}
 use Prim.Native.Nat.{ℕ}
-use borrow.Author.Tests.{not-true, not-false}
 use Rattle.field.specs.Field.{field_size}
 use Rattle.entry.specs.Entry.{missing, entry_at}
 use Rattle.raw.specs.Raw.{width_of, is_width}
@@ -23,7 +22,7 @@ pub returns-then-not-is_width : goal.returns-then-not-is_width
 returns-then-not-is_width c =
     let w = c in
     c.raw_entry.ensures
-    ∙ ap raw_entry (c.no_entry.ensures ∙ no-width _ _ _ (sym w.is_width.ensures ∙ not-true _ w.if-not-is_width.true-raw))
+    ∙ ap raw_entry (c.no_entry.ensures ∙ no-width _ _ _ (sym w.is_width.ensures ∙ w.if-not-is_width.true))
 
 pub returns : goal.returns
 returns c =
@@ -32,5 +31,5 @@ returns c =
     let w = c in
     let a = w.args in
     let q : e.entry_at.result ≡ entry_raw a.table.now a.width a.i =
-    e.entry_at.ensures ∙ rw v.width_of.ensures (a-width _ _ _ (sym w.is_width.ensures ∙ not-false _ w.if-not-is_width.false-raw)) in
+    e.entry_at.ensures ∙ rw v.width_of.ensures (a-width _ _ _ (sym w.is_width.ensures ∙ w.if-not-is_width.false)) in
     c.raw_entry-2.ensures ∙ ap raw_entry q

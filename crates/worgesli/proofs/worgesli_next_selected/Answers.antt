@@ -4,7 +4,6 @@ use mathlib.Core.Bool.{true, false}
 use mathlib.Core.List.{List}
 use Prim.Native.Nat.{ℕ, ◌+◌, ◌-◌}
 use native.Mathlib.Omega.{arith}
-use borrow.Author.Tests.{not-true, not-false}
 use Rattle.field.specs.Field.{field_size}
 use Rattle.selection.specs.Selection.{next_of}
 use Rattle.raw.specs.Raw.{width_of, is_width}
@@ -25,18 +24,18 @@ returns-then-from-entries c =
     let w = c in
     let a = w.args in
     let e : a.entries ≡ a.from + (a.entries - a.from) = omega arith in
-    e ∙ no-width _ _ _ _ _ (sym w.is_width.ensures ∙ not-true _ w.if-not-is_width.true-raw)
+    e ∙ no-width _ _ _ _ _ (sym w.is_width.ensures ∙ w.if-not-is_width.true)
 
 pub returns-else-from-entries : goal.returns-else-from-entries
 returns-else-from-entries c =
     let w = c in
     let a = w.args in
     let e : a.from ≡ a.from + (a.entries - a.from) = omega arith in
-    e ∙ no-width _ _ _ _ _ (sym w.is_width.ensures ∙ not-true _ w.if-not-is_width.true-raw)
+    e ∙ no-width _ _ _ _ _ (sym w.is_width.ensures ∙ w.if-not-is_width.true)
 
 pub returns : goal.returns
 returns c =
     let v = c in
     let w = c in
     c.next_selected.ensures
-    ∙ rw v.width_of.ensures (a-width _ _ _ _ _ (sym w.is_width.ensures ∙ not-false _ w.if-not-is_width.false-raw))
+    ∙ rw v.width_of.ensures (a-width _ _ _ _ _ (sym w.is_width.ensures ∙ w.if-not-is_width.false))

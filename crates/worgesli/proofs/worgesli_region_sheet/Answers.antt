@@ -3,7 +3,6 @@ use mathlib.Core.Path.{◌≡◌, refl, sym, ap, ◌∙◌}
 use mathlib.Core.Bool.{true, false}
 use mathlib.Core.List.{List}
 use Prim.Native.Nat.{ℕ}
-use borrow.Author.Tests.{not-true, not-false}
 use Rattle.field.specs.Field.{field_size}
 use Rattle.sheet.specs.Sheet.{sheet_outcome, sheet_of}
 use Rattle.sheet.specs.declared.Sheet.TheVariants as S
@@ -22,7 +21,7 @@ a-width t n p e = rw e refl
 pub returns-then-not-is_width : goal.returns-then-not-is_width
 returns-then-not-is_width c =
     let w = c in
-    rw c.raw_sheet.ensures (ap crossed (no-width _ _ _ (sym w.is_width.ensures ∙ not-true _ w.if-not-is_width.true-raw)))
+    rw c.raw_sheet.ensures (ap crossed (no-width _ _ _ (sym w.is_width.ensures ∙ w.if-not-is_width.true)))
 
 pub returns : goal.returns
 returns c =
@@ -31,4 +30,4 @@ returns c =
     let w = c in
     let e = r.region_sheet.ensures.is in
     rw c.raw_sheet-2.ensures
-    (ap crossed e ∙ rw v.width_of.ensures (ap crossed (a-width _ _ _ (sym w.is_width.ensures ∙ not-false _ w.if-not-is_width.false-raw))))
+    (ap crossed e ∙ rw v.width_of.ensures (ap crossed (a-width _ _ _ (sym w.is_width.ensures ∙ w.if-not-is_width.false))))
