@@ -1,9 +1,9 @@
-/* How a conversation's bytes are divided changes nothing. A device says a string of bytes, whatever it is sent; a run's own steps are lent its set, names and
- * buffers and a beginning of what is left of the string; steps that are refused with 1, 2, 3, 4 or 18 may be lent anything. The undivided run is lent all that is
- * left in each step. Whatever the list of steps, the reports are a beginning of the undivided run's; once L + L/8 own steps count, L being the string's length,
- * they are the whole of it, and the rest of the string, the buffers and the session are the same too: but for the window, where a packet ended the session. Every
- * own step counts but one that needs bytes and is delivered none while some are left. The steps of a divided run are made by value and in place, as it comes.
- */
+/* How a conversation's bytes are divided changes nothing. A device says a string of bytes, whatever it is sent; a run's own steps are lent its set, names
+ * and buffers and a beginning of what is left of the string; steps that are refused with 1, 2, 3, 4 or 18 may be lent anything. The undivided run is lent
+ * all that is left in each step. Whatever the list of steps, the reports are a beginning of the undivided run's; once L + L/8 own steps count, L being the
+ * string's length, they are the whole of it, and the rest of the string, the buffers and the session are the same too: but for the window, where a packet
+ * ended the session. Every own step counts but one that needs bytes and is delivered none while some are left. The steps of a divided run are made by value
+ * and in place, as it comes. */
 #include <stdio.h>
 #include <stdlib.h>
 

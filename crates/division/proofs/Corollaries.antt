@@ -1,4 +1,5 @@
--- What follows of any host of which the claim holds: two divisions come to the same; the claim in demand 3's words; and it goes over to a host whose steps give the
+-- What follows of any host of which the claim holds: two divisions come to the same; the claim in demand 3's words; and it goes over to a host whose steps
+-- give the
 -- same. By the laws of related machines. Assumes nothing.
 use mathlib.Core.Path.{◌≡◌, refl, sym, ap, ◌∙◌}
 use mathlib.Core.Logic.{◌⊎◌, inl, inr, ⊎_elim}

@@ -1,4 +1,5 @@
--- Where a region's chunk ends before the region does, it ends at a multiple of 512 (`CutAt` of fetch/proofs/Chunk): every step keeps it so. By the phase. Assumes
+-- Where a region's chunk ends before the region does, it ends at a multiple of 512 (`CutAt` of fetch/proofs/Chunk): every step keeps it so. By the phase.
+-- Assumes
 -- nothing.
 use mathlib.Core.Path.{◌≡◌, refl}
 use mathlib.Core.Bool.{Bool, true, false, not}

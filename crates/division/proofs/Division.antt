@@ -1,4 +1,5 @@
--- The theorem: `Division definitions`. The measure of a world is 0 where an own step changes nothing, since it is refused or waits for what is not left; else it is
+-- The theorem: `Division definitions`. The measure of a world is 0 where an own step changes nothing, since it is refused or waits for what is not left; else
+-- it is
 -- `steps_at` of proofs/Measure, which is `enough_over` at the start. Assumes nothing.
 use mathlib.Core.Path.{◌≡◌, refl, sym, ap, ◌∙◌}
 use mathlib.Core.Logic.{◌⊎◌, inl, inr}

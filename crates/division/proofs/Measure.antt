@@ -1,4 +1,5 @@
--- How many own steps are left at most, by the phase and the bytes that are left: one for each byte, and what is done without one, which is paid for by the bytes
+-- How many own steps are left at most, by the phase and the bytes that are left: one for each byte, and what is done without one, which is paid for by the
+-- bytes
 -- that led to it, eight for a step. Each step that waits for nothing makes it less. Assumes nothing.
 use mathlib.Core.Path.{◌≡◌, refl, sym, ap, subst, ◌∙◌}
 use mathlib.Core.Logic.{◌⊎◌, inl, inr, ⊎_elim}

@@ -1,4 +1,5 @@
--- The claim of specs/Claim, of the definitions' host, over a measure of the own steps that are left: a step lent the run's own things goes as in proofs/Undivided, a
+-- The claim of specs/Claim, of the definitions' host, over a measure of the own steps that are left: a step lent the run's own things goes as in
+-- proofs/Undivided, a
 -- refused one leaves the world as it was, and the rest are laws of lists of steps. Assumes nothing.
 use mathlib.Core.Path.{◌≡◌, refl, sym, ap, ◌∙◌}
 use mathlib.Core.Logic.{◌⊎◌, inl, inr, ⊎_elim}

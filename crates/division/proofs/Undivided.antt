@@ -1,5 +1,6 @@
 -- From one step to the undivided run: whatever the next delivery is, what the undivided run still shows from there on and how it ends stay the same. Over a
--- measure mu of the own steps that are left. Beside the world stands whether a packet ended its session, which decides whether windows are compared. Assumes nothing.
+-- measure mu of the own steps that are left. Beside the world stands whether a packet ended its session, which decides whether windows are compared. Assumes
+-- nothing.
 use mathlib.Core.Path.{◌≡◌, refl, sym, ap, ◌∙◌}
 use mathlib.Core.Logic.{◌⊎◌, inl, inr, ⊎_elim}
 use mathlib.Core.Bool.{Bool, true, false, ◌&&◌, ◌||◌}

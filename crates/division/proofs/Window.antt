@@ -1,4 +1,5 @@
--- Bytes that are kept in the window, or pasted into a buffer, in two parts are kept or pasted at once: by whether the first part ends within the window. Assumes
+-- Bytes that are kept in the window, or pasted into a buffer, in two parts are kept or pasted at once: by whether the first part ends within the window.
+-- Assumes
 -- nothing.
 use mathlib.Core.Path.{◌≡◌, refl, sym, ap, ◌∙◌}
 use mathlib.Core.List.{List, [], ◌++◌, append-nil, append_assoc}

@@ -47,7 +47,8 @@ module _ (h : Host) (c : Setting) (see : h.State → Session) where
   packet_ended w [] = false
   packet_ended w (l ∷ ls) = packet_ends (see w.state).phase (see (next_over h c w l).state).phase || packet_ended (next_over h c w l) ls
 
--- a session without its window where b. One that a packet ended keeps the window from before its last step (`acted` of session/specs/PacketPhase), which has as much of that
+-- a session without its window where b. One that a packet ended keeps the window from before its last step (`acted` of session/specs/PacketPhase), which has
+-- as much of that
 -- packet as was held then: this alone depends on the division
 abbrev pub unwindowed : Bool → Session → Session
 unwindowed b s = pick b (holding s (replicate 48 0) s.phase) s
@@ -83,7 +84,8 @@ AnyTwo h see =
     (c : Setting) (ls ks : List Lent) → RunOver h c (start h c) ls → RunOver h c (start h c) ks → enough_over c ≤ owns_fed h c see (start h c) ls
     → enough_over c ≤ owns_fed h c see (start h c) ks → Matched h see c ls ks
 
--- ---- in demand 3's words: each step is fair as there, so that no delivery is empty while bytes are left, every step that is lent the run's own things counts, and
+-- ---- in demand 3's words: each step is fair as there, so that no delivery is empty while bytes are left, every step that is lent the run's own things
+-- counts, and
 -- what is seen are the reports alone (`in_demand_words` of proofs/Corollaries)
 
 module _ (h : Host) (c : Setting) where

@@ -1,4 +1,5 @@
--- Any host before a device that says a fixed string of bytes, whatever it is sent: it may answer a command, lie, say more than it was asked, or break off. Worlds
+-- Any host before a device that says a fixed string of bytes, whatever it is sent: it may answer a command, lie, say more than it was asked, or break off.
+-- Worlds
 -- and steps are those of fetch/specs/Device, but that no step queues anything: the queue is what is left of the string. A setting's bytes are the string; its
 -- memory plays no part. `see` is the session that a host's state stands for.
 use Rattle.std.specs.Prelude.{ℕ, ◌⊎◌, Bool, not, ◌&&◌, ◌||◌, List, [], ◌∷◌, ◌++◌, map, eqb, T, length}
@@ -50,7 +51,8 @@ module _ (h : Host) (c : Setting) where
   abbrev pub next_over : World h.State → Lent → World h.State
   next_over w l = let r = made h c w l in world_after w l r (left l.delivery r.taken w.queue)
 
-  -- lent the run's own things *and* (×) some of what is left of the string; *or* (⊎) refused with 1, 2, 3, 4 or 18, and then lent anything. Demand 3's fair steps
+  -- lent the run's own things *and* (×) some of what is left of the string; *or* (⊎) refused with 1, 2, 3, 4 or 18, and then lent anything. Demand 3's fair
+  -- steps
   -- are such steps (`in_demand_words` of proofs/Corollaries goes over to them): here a delivery may be empty at any time
   abbrev pub FairOver : World h.State → Lent → Type 0
   FairOver w l = (T (all_own l) × FromQueue l.delivery) ⊎ T (aside (made h c w l).answer)

@@ -1,4 +1,5 @@
--- Wrong hosts that do as the definitions' does where each packet, table and chunk comes in a delivery of its own, and not where a hub divides or joins them. The
+-- Wrong hosts that do as the definitions' does where each packet, table and chunk comes in a delivery of its own, and not where a hub divides or joins them.
+-- The
 -- claim is to be false of each (`Uneven`).
 use Rattle.std.specs.Prelude.{ℕ, ◌+◌, Bool, true, false, ◌&&◌, List, ltb, leb, length}
 use Rattle.base.specs.Choice.{pick}
@@ -55,7 +56,8 @@ tablewise = swallowing in_table
     in_table (P.Region k x) = false
     in_table (P.Ended k) = false
 
--- ---- judges a packet's length only where one delivery has all eight bytes of the header: where a part of it is held, a bad length is not seen, and the bytes are
+-- ---- judges a packet's length only where one delivery has all eight bytes of the header: where a part of it is held, a bad length is not seen, and the
+-- bytes are
 -- held with the rest
 
 -- the header's last bytes come, and its length is bad

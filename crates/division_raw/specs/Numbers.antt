@@ -1,4 +1,5 @@
--- The session that the numbers tell which a call was lent or gave. `division_raw` of proofs/Raw is the claim of division/specs/Claim with it; and in every run the
+-- The session that the numbers tell which a call was lent or gave. `division_raw` of proofs/Raw is the claim of division/specs/Claim with it; and in every
+-- run the
 -- numbers are those of that session and tell nothing else (`numbers_only` there), so that what the same sessions have is the same numbers.
 use Rattle.session.specs.declared.Session.{Session}
 use Rattle.raw.specs.Raw.{session_of}
