@@ -1,7 +1,7 @@
 -- Numbers of modes, commands and packet kinds, and the class of a command number. Document 01, Records, "Packet", and "Decoding": every command
 -- number falls into one of four classes: decoded, XML (0x6d783f3c), known but unimplemented (7, 9, 0x0a, 0x0c, 0x0d, 0x13, 0x14), unknown; of these 9 and 0x0a are
 -- decoded since document 02, request 2: "Both leave class 8."
-use Rattle.std.specs.Prelude.{ℕ, Bool, true, false, List, [], ◌∷◌, eqb}
+use Rattle.std.specs.Prelude.{ℕ, Bool, true, false, List, [], ◌∷◌, Result, Ok, Err, eqb}
 use Rattle.base.specs.Choice.{pick}
 use Rattle.command.specs.declared.SaharaMode.{SaharaMode}
 use Rattle.command.specs.declared.SaharaMode.TheVariants as M
@@ -9,10 +9,8 @@ use Rattle.command.specs.declared.SaharaCmdModeCmd.{SaharaCmdModeCmd}
 use Rattle.command.specs.declared.SaharaCmdModeCmd.TheVariants as E
 use Rattle.command.specs.declared.SaharaCmd.{SaharaCmd}
 use Rattle.command.specs.declared.SaharaCmd.TheVariants as K
-use Rattle.command.specs.declared.ModeOf.{ModeOf}
-use Rattle.command.specs.declared.ModeOf.TheVariants as MO
-use Rattle.command.specs.declared.CommandOf.{CommandOf}
-use Rattle.command.specs.declared.CommandOf.TheVariants as CO
+use Rattle.refusal.specs.declared.Refusal.{Refusal}
+use Rattle.refusal.specs.declared.Refusal.TheVariants as Refusal
 use Rattle.command.specs.declared.Class.{Class}
 use Rattle.command.specs.declared.Class.TheVariants as C
 
@@ -66,20 +64,20 @@ least_body K.MemDebug64 = 16
 least_body K.MemRead64 = 16
 least_body K.ReadData64 = 24
 
--- the mode, the command, of a number. Bad makes a body malformed: 9 (`hello_of`, `exec_resp_of`, `packet_with` of packet/specs/Packet)
-unfoldable pub mode_of : ℕ → ModeOf
+-- the mode, the command, of a number. A number of none makes a body malformed: 9
+unfoldable pub mode_of : ℕ → Result SaharaMode Refusal
 mode_of n =
-    pick (eqb n (mode_number M.WaitingForImage)) (MO.Is M.WaitingForImage)
-    (pick (eqb n (mode_number M.ImageTransferComplete)) (MO.Is M.ImageTransferComplete)
-    (pick (eqb n (mode_number M.MemoryDebug)) (MO.Is M.MemoryDebug)
-    (pick (eqb n (mode_number M.Command)) (MO.Is M.Command) MO.Bad)))
+    pick (eqb n (mode_number M.WaitingForImage)) (Ok M.WaitingForImage)
+    (pick (eqb n (mode_number M.ImageTransferComplete)) (Ok M.ImageTransferComplete)
+    (pick (eqb n (mode_number M.MemoryDebug)) (Ok M.MemoryDebug)
+    (pick (eqb n (mode_number M.Command)) (Ok M.Command) (Err Refusal.Body))))
 
-unfoldable pub command_of : ℕ → CommandOf
+unfoldable pub command_of : ℕ → Result SaharaCmdModeCmd Refusal
 command_of n =
-    pick (eqb n (command_number E.Nop)) (CO.Is E.Nop)
-    (pick (eqb n (command_number E.ReadSerialNum)) (CO.Is E.ReadSerialNum)
-    (pick (eqb n (command_number E.ReadHwId)) (CO.Is E.ReadHwId)
-    (pick (eqb n (command_number E.ReadOemKeyHash)) (CO.Is E.ReadOemKeyHash) CO.Bad)))
+    pick (eqb n (command_number E.Nop)) (Ok E.Nop)
+    (pick (eqb n (command_number E.ReadSerialNum)) (Ok E.ReadSerialNum)
+    (pick (eqb n (command_number E.ReadHwId)) (Ok E.ReadHwId)
+    (pick (eqb n (command_number E.ReadOemKeyHash)) (Ok E.ReadOemKeyHash) (Err Refusal.Body))))
 
 -- the fifteen kinds, the XML mark, and the known but unimplemented numbers
 unfoldable pub kinds : List SaharaCmd
