@@ -30,8 +30,8 @@ fn open_region(s: Session, k: usize, i: usize, table: &[u8]) -> Stepped
     let name = entry.filename;
     let check = check_open(&name);
     match check {
-        NameCheck::Refused(why) => moved(s, Phase::Ended(0), 0, Answer::Refused(why)),
-        NameCheck::Good => {
+        Err(why) => moved(s, Phase::Ended(0), 0, Answer::Refused(why)),
+        Ok(()) => {
             let x = Region {
                 entry: i,
                 base: entry.base,

@@ -15,7 +15,8 @@ use Rattle.field.specs.declared.Width.TheVariants as WI
 use Rattle.build.specs.Build.{bytes_of, size_of, front, BuildOutcome, build_outcome, build_told, build_of}
 use Rattle.build.specs.declared.Request.{Request}
 use Rattle.build.specs.declared.Request.TheVariants as Q
-use Rattle.build.specs.declared.Built.TheVariants as T
+use Rattle.std.specs.Prelude.{Ok, Err}
+use Rattle.refusal.specs.declared.Refusal.TheVariants as Refusal
 
 -- a packet has the size that 01 gives
 pub length_bytes : (q : Request) → length (bytes_of q) ≡ size_of q
@@ -57,11 +58,11 @@ pub stored_front : (q : Request) (o : List ℕ) → size_of q ≤ length o → s
 stored_front q o = sets_front (bytes_of q) o (size_of q) (length_bytes q)
 
 -- refused below 48 bytes, else built
-pub build_short : (q : Request) (o : List ℕ) → length o < 48 → build_of q o ≡ build_outcome (T.Refused 3) o
+pub build_short : (q : Request) (o : List ℕ) → length o < 48 → build_of q o ≡ build_outcome (Err Refusal.OutBuffer) o
 unfolding build_of
 build_short q o h = simp (lt-ltb _ _ h)
 
-pub build_long : (q : Request) (o : List ℕ) → 48 ≤ length o → build_of q o ≡ build_outcome (T.Send (size_of q)) (front q o)
+pub build_long : (q : Request) (o : List ℕ) → 48 ≤ length o → build_of q o ≡ build_outcome (Ok (size_of q)) (front q o)
 unfolding build_of
 build_long q o h = simp (le-ltb _ _ h)
 
@@ -75,13 +76,13 @@ unfolding build_of
 build_narrowed a k o = rw (narrowed a k) refl
 
 -- so a build promises 3 where it is short, and a packet stored at 0 is what it leaves
-pub refuses : (q : Request) (o : List ℕ) → length o < 48 → Tells build_told (build_outcome (T.Refused 3) o) (build_of q o)
+pub refuses : (q : Request) (o : List ℕ) → length o < 48 → Tells build_told (build_outcome (Err Refusal.OutBuffer) o) (build_of q o)
 refuses q o h = tells build_told (sym (build_short q o h))
 
-pub builds : (q : Request) (o e : List ℕ) → 48 ≤ length o → e ≡ sets o 0 (bytes_of q) → Tells build_told (build_outcome (T.Send (size_of q)) e) (build_of q o)
+pub builds : (q : Request) (o e : List ℕ) → 48 ≤ length o → e ≡ sets o 0 (bytes_of q) → Tells build_told (build_outcome (Ok (size_of q)) e) (build_of q o)
 builds q o e h s =
     let m : size_of q ≤ 48 = size_most q in
-    tells build_told (ap (build_outcome (T.Send (size_of q))) (s ∙ stored_front q o (omega arith)) ∙ sym (build_long q o h))
+    tells build_told (ap (build_outcome (Ok (size_of q))) (s ∙ stored_front q o (omega arith)) ∙ sym (build_long q o h))
 
 -- and what is built of a request is built of any that is the same
 pub built_so : (o : List ℕ) {q r : Request} {x : BuildOutcome} → Tells build_told x (build_of r o) → q ≡ r → Tells build_told x (build_of q o)

@@ -2,6 +2,8 @@
 -- place.
 -- Assumes nothing.
 use mathlib.Core.Path.{◌≡◌, refl, ap, ◌∙◌}
+use mathlib.Core.Bool.{Bool, true, false}
+use Rattle.base.specs.Choice.{pick}
 use mathlib.Core.List.{List, [], ◌∷◌, ◌++◌, append-nil}
 use Prim.Native.Nat.{ℕ, zero, suc, ◌+◌, ◌*◌, ◌^◌, ◌<◌}
 use native.Mathlib.Omega.{arith}
@@ -17,10 +19,14 @@ use Rattle.field.proofs.Laws.{length_fields, field_back}
 use Rattle.command.specs.Command.{mode_number, command_number, kind_number}
 use Rattle.command.specs.declared.SaharaMode.TheVariants as M
 use Rattle.command.specs.declared.SaharaCmdModeCmd.TheVariants as E
-use Rattle.command.proofs.Laws.{below}
 use Rattle.build.specs.Build.{read_kind, bytes_of, size_of}
 use Rattle.build.specs.declared.Request.{Request}
 use Rattle.build.specs.declared.Request.TheVariants as Q
+
+-- each of a list is below b
+abbrev below : ℕ → List ℕ → Bool
+below b [] = true
+below b (k ∷ ks) = pick (ltb k b) (below b ks) false
 
 -- each of a list whose numbers are below b is below b
 each_below : (b : ℕ) (vs : List ℕ) (i : ℕ) → T (below b vs) → i < length vs → get_or vs i 0 < b

@@ -5,16 +5,16 @@ use Prim.Native.Nat.{ℕ}
 use lib.Dec.{eqb}
 use lib.ListN.{get_or}
 use Rattle.base.specs.Choice.{pick}
-use Rattle.base.specs.Told.{Told}
-use Rattle.base.proofs.Telling.{apart}
+use Rattle.base.specs.Told.{told_send}
+use Rattle.refusal.proofs.Laws.{result_apart}
 use Rattle.field.specs.declared.Width.TheVariants as WI
 use Rattle.command.specs.Command.{mode_of, command_of}
 use Rattle.command.proofs.Laws.{mode_is, command_is, mode_again, command_again}
 use Rattle.build.specs.Build.{request_number, request_values, built_told}
 use Rattle.build.specs.declared.Request.{Request}
 use Rattle.build.specs.declared.Request.TheVariants as Q
-use Rattle.build.specs.declared.Built.{Built}
-use Rattle.build.specs.declared.Built.TheVariants as T
+use Rattle.std.specs.Prelude.{Result}
+use Rattle.refusal.specs.declared.Refusal.{Refusal}
 
 -- the request of a packet's command and the values that it chooses
 abbrev pub request_from : ℕ → List ℕ → Request
@@ -36,12 +36,5 @@ request_back Q.Reset = refl
 request_back (Q.MemRead WI.Bits32 a k) = refl
 request_back (Q.MemRead WI.Bits64 a k) = refl
 
-abbrev built_from : Told → Built
-built_from t = pick (eqb t.number 1) (T.Send (get_or t.values 0 0)) (T.Refused (get_or t.values 0 0))
-
-built_back : (x : Built) → built_from (built_told x) ≡ x
-built_back (T.Send k) = refl
-built_back (T.Refused why) = refl
-
-pub built_apart : (x y : Built) → built_told x ≡ built_told y → x ≡ y
-built_apart = apart built_told built_from built_back
+pub built_apart : (x y : Result ℕ Refusal) → built_told x ≡ built_told y → x ≡ y
+built_apart = result_apart told_send (λ t. get_or t.values 0 0) (λ _. refl) (λ _. refl)

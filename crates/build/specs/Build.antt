@@ -1,9 +1,10 @@
 -- Building of the packets that the host sends. Document 01, "Building": "HelloResp: length 48, version 2, compatible 1, status 0, the session's mode,
 -- zeros. Done 8 bytes; Execute 0x0d, ExecuteData and SwitchMode 0x0c (mode 0) 12 each; Reset 8; MemRead64 24." Refusals, "Build": 3 out buffer below
 -- 48 bytes. "Only named bytes of a lent buffer change." Document 02, request 2: "MemRead (0x0a) .. an address and a length of 4 bytes", 16 bytes.
-use Rattle.std.specs.Prelude.{ℕ, ◌+◌, List, [], ◌∷◌, ◌++◌, ltb, length, drop}
+use Rattle.std.specs.Prelude.{ℕ, ◌+◌, List, [], ◌∷◌, ◌++◌, ltb, length, drop, Result, Ok, Err}
 use Rattle.base.specs.Choice.{pick}
-use Rattle.base.specs.Told.{Told, told_send, told_refused}
+use Rattle.base.specs.Told.{Told, told_send}
+use Rattle.refusal.specs.Refusal.{result_told}
 use Rattle.field.specs.Field.{fields, words, field_size}
 use Rattle.field.specs.declared.Width.{Width}
 use Rattle.field.specs.declared.Width.TheVariants as WI
@@ -13,8 +14,8 @@ use Rattle.command.specs.declared.SaharaCmd.{SaharaCmd}
 use Rattle.command.specs.declared.SaharaCmd.TheVariants as K
 use Rattle.build.specs.declared.Request.{Request}
 use Rattle.build.specs.declared.Request.TheVariants as Q
-use Rattle.build.specs.declared.Built.{Built}
-use Rattle.build.specs.declared.Built.TheVariants as T
+use Rattle.refusal.specs.declared.Refusal.{Refusal}
+use Rattle.refusal.specs.declared.Refusal.TheVariants as Refusal
 
 -- a packet: its command, its whole length, its body
 abbrev pub packet_bytes : ℕ → List ℕ → List ℕ
@@ -76,16 +77,15 @@ size_of (Q.MemRead v a k) = read_size v
 
 -- a build's whole outcome: the answer, and the out buffer afterwards
 pub record BuildOutcome : Type 0 where
-  pub built : Built
+  pub built : Result ℕ Refusal
   pub out : List ℕ
 
-abbrev pub build_outcome : Built → List ℕ → BuildOutcome
+abbrev pub build_outcome : Result ℕ Refusal → List ℕ → BuildOutcome
 build_outcome b o = record { built = b; out = o }
 
 -- what a build tells
-abbrev pub built_told : Built → Told
-built_told (T.Send k) = told_send k
-built_told (T.Refused why) = told_refused why
+abbrev pub built_told : Result ℕ Refusal → Told
+built_told = result_told told_send
 
 abbrev pub build_told : BuildOutcome → Told
 build_told x = built_told x.built
@@ -95,4 +95,4 @@ abbrev pub front : Request → List ℕ → List ℕ
 front q o = bytes_of q ++ drop (size_of q) o
 
 unfoldable pub build_of : Request → List ℕ → BuildOutcome
-build_of q o = pick (ltb (length o) 48) (build_outcome (T.Refused 3) o) (build_outcome (T.Send (size_of q)) (front q o))
+build_of q o = pick (ltb (length o) 48) (build_outcome (Err Refusal.OutBuffer) o) (build_outcome (Ok (size_of q)) (front q o))

@@ -7,8 +7,9 @@ ghost use Rattle.field.specs.Field.{le_bytes, words};
 ghost use Rattle.base.specs.Told.{Tells};
 ghost use Rattle.build.specs.Build.{read_size, build_of, build_outcome, build_told};
 
-use command::{SaharaCmd, SaharaCmdModeCmd, SaharaMode, command_number, kind_number, mode_number};
+use command::{SaharaCmd, SaharaCmdModeCmd, SaharaMode};
 use field::{Width, put_u32, put_u64};
+use refusal::Refusal;
 
 // What is to be sent.
 #[derive(Clone, Copy)]
@@ -21,13 +22,6 @@ pub enum Request {
     Reset,
     // address and length
     MemRead(Width, u64, u64),
-}
-
-// How many bytes of the out buffer are to be sent, or the refusal.
-#[derive(Clone, Copy)]
-pub enum Built {
-    Send(usize),
-    Refused(u8),
 }
 
 // The least out buffer, whatever the packet.
@@ -88,74 +82,74 @@ fn hello_body(out: &mut [u8], mode: u32)
 }
 
 // HelloResp, 48 bytes: the session's mode, whatever the device offered.
-pub fn sahara_send_hello_rsp(out: &mut [u8], mode: SaharaMode) -> Built
+pub fn sahara_send_hello_rsp(out: &mut [u8], mode: SaharaMode) -> Result<usize, Refusal>
     ensures { Tells build_told (build_outcome result out.new) (build_of (Request.HelloResp mode) out.old) }
 {
     if out.len() < LEAST {
-        return Built::Refused(3);
+        return Err(Refusal::OutBuffer);
     }
-    sahara_send_generic(out, kind_number(SaharaCmd::HelloResp), 48);
-    hello_body(out, mode_number(mode));
-    Built::Send(48)
+    sahara_send_generic(out, u32::from(SaharaCmd::HelloResp), 48);
+    hello_body(out, u32::from(mode));
+    Ok(48)
 }
 
 // Done, 8 bytes.
-pub fn sahara_send_done(out: &mut [u8]) -> Built
+pub fn sahara_send_done(out: &mut [u8]) -> Result<usize, Refusal>
     ensures { Tells build_told (build_outcome result out.new) (build_of Request.Done out.old) }
 {
     if out.len() < LEAST {
-        return Built::Refused(3);
+        return Err(Refusal::OutBuffer);
     }
-    sahara_send_generic(out, kind_number(SaharaCmd::Done), 8);
-    Built::Send(8)
+    sahara_send_generic(out, u32::from(SaharaCmd::Done), 8);
+    Ok(8)
 }
 
 // Execute, 12 bytes.
-pub fn sahara_send_cmd_exec(out: &mut [u8], command: SaharaCmdModeCmd) -> Built
+pub fn sahara_send_cmd_exec(out: &mut [u8], command: SaharaCmdModeCmd) -> Result<usize, Refusal>
     ensures { Tells build_told (build_outcome result out.new) (build_of (Request.Execute command) out.old) }
 {
     if out.len() < LEAST {
-        return Built::Refused(3);
+        return Err(Refusal::OutBuffer);
     }
-    one_word(out, EXECUTE, command_number(command));
-    Built::Send(12)
+    one_word(out, EXECUTE, u32::from(command));
+    Ok(12)
 }
 
 // ExecuteData, 12 bytes.
-pub fn sahara_send_cmd_data(out: &mut [u8], command: SaharaCmdModeCmd) -> Built
+pub fn sahara_send_cmd_data(out: &mut [u8], command: SaharaCmdModeCmd) -> Result<usize, Refusal>
     ensures { Tells build_told (build_outcome result out.new) (build_of (Request.ExecuteData command) out.old) }
 {
     if out.len() < LEAST {
-        return Built::Refused(3);
+        return Err(Refusal::OutBuffer);
     }
     one_word(
         out,
-        kind_number(SaharaCmd::ExecuteData),
-        command_number(command),
+        u32::from(SaharaCmd::ExecuteData),
+        u32::from(command),
     );
-    Built::Send(12)
+    Ok(12)
 }
 
 // SwitchMode to mode 0, 12 bytes.
-pub fn sahara_switch_mode(out: &mut [u8]) -> Built
+pub fn sahara_switch_mode(out: &mut [u8]) -> Result<usize, Refusal>
     ensures { Tells build_told (build_outcome result out.new) (build_of Request.SwitchMode out.old) }
 {
     if out.len() < LEAST {
-        return Built::Refused(3);
+        return Err(Refusal::OutBuffer);
     }
-    one_word(out, SWITCH_MODE, mode_number(SaharaMode::WaitingForImage));
-    Built::Send(12)
+    one_word(out, SWITCH_MODE, u32::from(SaharaMode::WaitingForImage));
+    Ok(12)
 }
 
 // Reset, 8 bytes.
-pub fn sahara_reset(out: &mut [u8]) -> Built
+pub fn sahara_reset(out: &mut [u8]) -> Result<usize, Refusal>
     ensures { Tells build_told (build_outcome result out.new) (build_of Request.Reset out.old) }
 {
     if out.len() < LEAST {
-        return Built::Refused(3);
+        return Err(Refusal::OutBuffer);
     }
     sahara_send_generic(out, RESET, 8);
-    Built::Send(8)
+    Ok(8)
 }
 
 // The bytes of a memory read.
@@ -169,33 +163,33 @@ pub fn read_size(width: Width) -> usize
 }
 
 // MemRead, 16 bytes.
-fn mem_read32(out: &mut [u8], addr: u32, len: u32) -> Built
+fn mem_read32(out: &mut [u8], addr: u32, len: u32) -> Result<usize, Refusal>
     ensures { Tells build_told (build_outcome result out.new) (build_of (Request.MemRead Width.Bits32 addr len) out.old) }
 {
     if out.len() < LEAST {
-        return Built::Refused(3);
+        return Err(Refusal::OutBuffer);
     }
-    sahara_send_generic(out, kind_number(SaharaCmd::MemRead), 16);
+    sahara_send_generic(out, u32::from(SaharaCmd::MemRead), 16);
     word(out, 8, addr);
     word(out, 12, len);
-    Built::Send(16)
+    Ok(16)
 }
 
 // MemRead64, 24 bytes.
-fn mem_read64(out: &mut [u8], addr: u64, len: u64) -> Built
+fn mem_read64(out: &mut [u8], addr: u64, len: u64) -> Result<usize, Refusal>
     ensures { Tells build_told (build_outcome result out.new) (build_of (Request.MemRead Width.Bits64 addr len) out.old) }
 {
     if out.len() < LEAST {
-        return Built::Refused(3);
+        return Err(Refusal::OutBuffer);
     }
-    sahara_send_generic(out, kind_number(SaharaCmd::MemRead64), 24);
+    sahara_send_generic(out, u32::from(SaharaCmd::MemRead64), 24);
     long(out, 8, addr);
     long(out, 16, len);
-    Built::Send(24)
+    Ok(24)
 }
 
 // A memory read of either width. Of 32 bits what passes 2^32 of an address or a length is dropped; what a step sends fits.
-pub fn sahara_send_mem_read(out: &mut [u8], width: Width, addr: u64, len: u64) -> Built
+pub fn sahara_send_mem_read(out: &mut [u8], width: Width, addr: u64, len: u64) -> Result<usize, Refusal>
     ensures { Tells build_told (build_outcome result out.new) (build_of (Request.MemRead width addr len) out.old) }
 {
     match width {
@@ -205,7 +199,7 @@ pub fn sahara_send_mem_read(out: &mut [u8], width: Width, addr: u64, len: u64) -
 }
 
 // The packet of a request.
-pub fn build(out: &mut [u8], request: Request) -> Built
+pub fn build(out: &mut [u8], request: Request) -> Result<usize, Refusal>
     ensures { Tells build_told (build_outcome result out.new) (build_of request out.old) }
 {
     match request {

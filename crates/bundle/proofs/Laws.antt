@@ -15,16 +15,18 @@ use Rattle.base.specs.Choice.{pick}
 use Rattle.base.proofs.Ranges.{by_else, by_then, either}
 use Rattle.bundle.specs.Bundle.{count_of, data_size_of, slot_start_of, slot_length_of, data_from, absent, slot_good, slots_good, well_formed, slot_of}
 use Rattle.bundle.specs.Content.{size_in, content_at, content_of}
-use Rattle.bundle.specs.declared.Checked.TheVariants as C
 use Rattle.bundle.specs.declared.Slot.{Slot}
 use Rattle.bundle.specs.declared.Slot.TheVariants as S
+use Rattle.std.specs.Prelude.{Ok, Err}
+use Rattle.refusal.specs.declared.Refusal.{Refusal}
+use Rattle.refusal.specs.Refusal.{accepted}
 
 -- what a check's answer tells of its test
-pub checked_good : (t : Bool) (k : ℕ) → pick t C.Good (C.Refused k) ≡ C.Good → t ≡ true
-checked_good t k h = (by_then t C.Good (C.Refused k) (λ q. let z : ◌≡◌ {A = ℕ} 0 1 = cc in omega arith) h).0
+pub checked_good : (t : Bool) (k : Refusal) → pick t accepted (Err k) ≡ accepted → t ≡ true
+checked_good t k h = (by_then t accepted (Err k) (λ q. let z : ◌≡◌ {A = ℕ} 0 1 = cc in omega arith) h).0
 
-pub checked_refused : (t : Bool) (k n : ℕ) → pick t C.Good (C.Refused k) ≡ C.Refused n → t ≡ false
-checked_refused t k n h = (by_else t C.Good (C.Refused k) (λ q. let z : ◌≡◌ {A = ℕ} 0 1 = cc in omega arith) h).0
+pub checked_refused : (t : Bool) (k n : Refusal) → pick t accepted (Err k) ≡ Err n → t ≡ false
+checked_refused t k n h = (by_else t accepted (Err k) (λ q. let z : ◌≡◌ {A = ℕ} 0 1 = cc in omega arith) h).0
 
 -- the answers differ
 missing≢at : {s l : ℕ} → S.Missing ≡ S.At s l → ⊥

@@ -5,21 +5,15 @@ use lib.ListN.{get_or}
 use Rattle.base.specs.Choice.{pick}
 use Rattle.base.specs.Told.{Told}
 use Rattle.base.proofs.Telling.{apart}
+use Rattle.refusal.proofs.Laws.{accepted_apart}
 use Rattle.bundle.specs.Bundle.{checked_told, slot_told}
-use Rattle.bundle.specs.declared.Checked.{Checked}
-use Rattle.bundle.specs.declared.Checked.TheVariants as C
 use Rattle.bundle.specs.declared.Slot.{Slot}
 use Rattle.bundle.specs.declared.Slot.TheVariants as S
+use Rattle.std.specs.Prelude.{Result}
+use Rattle.refusal.specs.declared.Refusal.{Refusal}
 
-abbrev checked_from : Told → Checked
-checked_from t = pick (eqb t.number 0) C.Good (C.Refused (get_or t.values 0 0))
-
-checked_back : (x : Checked) → checked_from (checked_told x) ≡ x
-checked_back C.Good = refl
-checked_back (C.Refused why) = refl
-
-pub checked_apart : (x y : Checked) → checked_told x ≡ checked_told y → x ≡ y
-checked_apart = apart checked_told checked_from checked_back
+pub checked_apart : (x y : Result Unit Refusal) → checked_told x ≡ checked_told y → x ≡ y
+checked_apart = accepted_apart
 
 abbrev slot_from : Told → Slot
 slot_from t =

@@ -1,14 +1,15 @@
 -- Bundles: image sets and name lists. Document 01, Records, "Bundle": slot count n (4 bytes, 0..64), data size d (4 bytes), n starts, n lengths
 -- (4 bytes each), d data bytes; total exactly 8 + 8n + d; a present slot's start + length is at most d, ranges may overlap; start 0xFFFFFFFF with
 -- length 0 means absent, allowed in an image set and not in a name list. Refusals, "Bundle check": 1 image set malformed, 2 names malformed.
-use Rattle.std.specs.Prelude.{ℕ, zero, suc, ◌+◌, ◌*◌, Bool, true, false, List, [], ◌∷◌, ltb, leb, eqb, length, drop}
+use Rattle.std.specs.Prelude.{ℕ, zero, suc, ◌+◌, ◌*◌, Bool, true, false, List, [], ◌∷◌, ltb, leb, eqb, length, drop, Result, Ok, Err}
 use Rattle.base.specs.Choice.{pick}
-use Rattle.base.specs.Told.{Told, told, told_go, told_refused}
+use Rattle.base.specs.Told.{Told, told}
+use Rattle.refusal.specs.Refusal.{accepted_told, accepted}
 use Rattle.field.specs.Field.{le}
-use Rattle.bundle.specs.declared.Checked.{Checked}
-use Rattle.bundle.specs.declared.Checked.TheVariants as C
 use Rattle.bundle.specs.declared.Slot.{Slot}
 use Rattle.bundle.specs.declared.Slot.TheVariants as S
+use Rattle.refusal.specs.declared.Refusal.{Refusal}
+use Rattle.refusal.specs.declared.Refusal.TheVariants as Refusal
 
 -- n, d, and the start and length of slot i
 abbrev pub count_of : List ℕ → ℕ
@@ -47,16 +48,15 @@ well_formed gaps b =
     (pick (eqb (length b) (8 + 8 * count_of b + data_size_of b)) (slots_good gaps b (count_of b) 0) false))
 
 -- the two checks, with 01's numbers
-abbrev pub images_checked : List ℕ → Checked
-images_checked b = pick (well_formed true b) C.Good (C.Refused 1)
+abbrev pub images_checked : List ℕ → Result Unit Refusal
+images_checked b = pick (well_formed true b) accepted (Err Refusal.ImageSet)
 
-abbrev pub names_checked : List ℕ → Checked
-names_checked b = pick (well_formed false b) C.Good (C.Refused 2)
+abbrev pub names_checked : List ℕ → Result Unit Refusal
+names_checked b = pick (well_formed false b) accepted (Err Refusal.NameList)
 
 -- what a check tells
-abbrev pub checked_told : Checked → Told
-checked_told C.Good = told_go
-checked_told (C.Refused why) = told_refused why
+abbrev pub checked_told : Result Unit Refusal → Told
+checked_told = accepted_told
 
 -- slot i of any bytes: where it stands among them and how long it is, absent, or missing: no such slot, or it does not lie within the bytes
 -- (of a well-formed bundle, no such slot alone)

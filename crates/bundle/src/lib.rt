@@ -21,12 +21,7 @@ ghost use Rattle.bundle.specs.Bundle.{
 };
 
 use field::{Field4, u32_at, word};
-
-#[derive(Clone, Copy)]
-pub enum Checked {
-    Good,
-    Refused(u8),
-}
+use refusal::Refusal;
 
 // A slot's number in a bundle. It is no image ID: only the one-image rule (crate image) makes one of the other.
 #[derive(Clone, Copy)]
@@ -132,23 +127,23 @@ fn well_formed(b: &[u8], gaps: bool) -> bool
 }
 
 // An image set: slots may be absent.
-pub fn check_images(set: &[u8]) -> Checked
+pub fn check_images(set: &[u8]) -> Result<(), Refusal>
     ensures { Tells checked_told result (images_checked set.now) }
 {
     if well_formed(set, true) {
-        return Checked::Good;
+        return Ok(());
     }
-    Checked::Refused(1)
+    Err(Refusal::ImageSet)
 }
 
 // A name list: no slot may be absent.
-pub fn check_names(names: &[u8]) -> Checked
+pub fn check_names(names: &[u8]) -> Result<(), Refusal>
     ensures { Tells checked_told result (names_checked names.now) }
 {
     if well_formed(names, false) {
-        return Checked::Good;
+        return Ok(());
     }
-    Checked::Refused(2)
+    Err(Refusal::NameList)
 }
 
 // A slot of any bytes.

@@ -133,7 +133,7 @@ fn run<R: Read>(
 ) -> io::Result<()> {
     let mut s = host::open(
         SaharaMode::WaitingForImage,
-        ExecCommand::None,
+        None,
         QdlBackend::Serial,
     );
     let mut f = feed::begin();

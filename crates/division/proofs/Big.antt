@@ -8,22 +8,19 @@ use lib.ListN.{length}
 use Rattle.base.proofs.Tests.{split}
 use Rattle.bundle.specs.Bundle.{count_of}
 use Rattle.image.specs.Image.{range_unjudged}
-use Rattle.image.specs.declared.ImageRange.{ImageRange}
-use Rattle.image.specs.declared.ImageRange.TheVariants as R
 use Rattle.packet.specs.declared.SaharaPacket.{SaharaPacket}
 use Rattle.packet.specs.declared.SaharaPacketBody.{SaharaPacketBody}
 use Rattle.packet.specs.declared.SaharaPacketBody.TheVariants as B
-use Rattle.packet.specs.declared.Decoded.{Decoded}
-use Rattle.packet.specs.declared.Decoded.TheVariants as D
 use Rattle.packet.proofs.Laws.{accepted}
 use Rattle.packet.specs.Packet.{kind_in, decode_of}
 use Rattle.command.specs.Command.{least_body}
 use Rattle.verdict.specs.Verdict.{image_for, execute_for, on_body, on_decoded, verdict_of, room}
-use Rattle.verdict.specs.declared.ExecCommand.{ExecCommand}
-use Rattle.verdict.specs.declared.ExecCommand.TheVariants as X
 use Rattle.verdict.specs.declared.Opening.{Opening}
 use Rattle.verdict.specs.declared.Verdict.{Verdict}
 use Rattle.verdict.specs.declared.Verdict.TheVariants as W
+use Rattle.std.specs.Prelude.{Option, Some, None, Result, Ok, Err}
+use Rattle.refusal.specs.declared.Refusal.{Refusal}
+use Rattle.command.specs.declared.SaharaCmdModeCmd.{SaharaCmdModeCmd}
 
 abbrev pub Big : ℕ → Verdict → Type 0
 Big n (W.Reply q) = Unit
@@ -35,13 +32,13 @@ Big n (W.Debug v a k) = 16 ≤ n
 Big n (W.Refused why) = Unit
 
 module _ (u : Opening) (set : List ℕ) (tsize rsize n : ℕ) where
-  image_big : (r : ImageRange) → Big n (image_for r)
-  image_big (R.At x k) = tt
-  image_big (R.Refused why) = tt
+  image_big : (r : Result (ℕ × ℕ) Refusal) → Big n (image_for r)
+  image_big (Ok (x, k)) = tt
+  image_big (Err why) = tt
 
-  execute_big : (c : ExecCommand) → Big n (execute_for c)
-  execute_big (X.Is c) = tt
-  execute_big X.None = tt
+  execute_big : (c : Option SaharaCmdModeCmd) → Big n (execute_for c)
+  execute_big (Some c) = tt
+  execute_big None = tt
 
   on_body_lem : (len : ℕ) (b : SaharaPacketBody) → 8 + least_body (kind_in b) ≤ n → Big n (on_body u set tsize rsize len b)
   on_body_lem len (B.HelloReq b) l = split (Big n) (eqb len 48) (λ e. tt) (λ e. tt)
@@ -61,9 +58,9 @@ module _ (u : Opening) (set : List ℕ) (tsize rsize n : ℕ) where
   on_body_lem len (B.ReadData64Req b) l = split (Big n) (eqb len 32) (λ e. image_big (range_unjudged set b.image b.offset b.len)) (λ e. tt)
 
 module _ (u : Opening) (set : List ℕ) (tsize rsize : ℕ) (p : List ℕ) where
-  on_decoded_lem : (x : Decoded) → decode_of p ≡ x → Big (length p) (on_decoded u set tsize rsize x)
-  on_decoded_lem (D.Is q) e = on_body_lem u set tsize rsize (length p) q.len q.body (accepted p q e).least
-  on_decoded_lem (D.Refused why) e = tt
+  on_decoded_lem : (x : Result SaharaPacket Refusal) → decode_of p ≡ x → Big (length p) (on_decoded u set tsize rsize x)
+  on_decoded_lem (Ok q) e = on_body_lem u set tsize rsize (length p) q.len q.body (accepted p q e).least
+  on_decoded_lem (Err why) e = tt
 
   pub big : Big (length p) (verdict_of u set tsize rsize p)
   unfolding verdict_of

@@ -14,8 +14,6 @@ use Rattle.bundle.specs.Bundle.{well_formed}
 use Rattle.field.specs.Field.{field_size}
 use Rattle.entry.specs.Entry.{entries_in, entry_of, filename_of}
 use Rattle.filename.specs.Filename.{open_check, after_open_check}
-use Rattle.filename.specs.declared.NameCheck.{NameCheck}
-use Rattle.filename.specs.declared.NameCheck.TheVariants as N
 use Rattle.selection.specs.Selection.{next_of}
 use Rattle.packet.specs.Packet.{length_field, bad_length}
 use Rattle.verdict.specs.Verdict.{verdict_of}
@@ -35,6 +33,8 @@ use Rattle.session.specs.RegionPhase.{name_in, next_chunk, begun_of, ask_of, han
 use Rattle.session.specs.Limits.{limit_of}
 use Rattle.session.specs.Step.{on_phase, step_of}
 use Rattle.fetch.proofs.Chunk.{CutAt, asked_cut, handed_cut}
+use Rattle.std.specs.Prelude.{Result, Ok, Err}
+use Rattle.refusal.specs.declared.Refusal.{Refusal}
 
 abbrev pub CutIn : Phase → Type 0
 CutIn (P.Packet h) = Unit
@@ -68,18 +68,18 @@ module _ (s : Session) (d set names t y o : List ℕ) where
       (λ e. split Cut (bad_length size) (λ m. tt) (λ m. split Cut (ltb (h + n) size) (λ k. tt)
       (λ k. acted_cut n w (verdict_of s.opening set (length t) (length y) (take (length_field w) w)))))
 
-  open_cut : (k i : ℕ) (e : List ℕ) (c : NameCheck) → Cut (outcome (open_of (field_size s.width) s k i e c) t y o)
-  open_cut k i e N.Good = λ l. refl
-  open_cut k i e (N.Refused why) = tt
+  open_cut : (k i : ℕ) (e : List ℕ) (c : Result Unit Refusal) → Cut (outcome (open_of (field_size s.width) s k i e c) t y o)
+  open_cut k i e (Ok tt) = λ l. refl
+  open_cut k i e (Err why) = tt
 
   module _ (k : ℕ) (x : Region) (c : CutAt x) where
     next_cut : x.outstanding ≡ 0 → Cut (next_chunk s k x t y o)
     unfolding next_chunk
     next_cut z = split Cut (leb x.len x.done) (λ m. tt) (λ m. asked_cut s.opening x c z (leb-false _ _ m))
 
-    begun_cut : x.outstanding ≡ 0 → (n : NameCheck) → Cut (begun_of s k x t y o n)
-    begun_cut z N.Good = split Cut (ltb (256 ^ field_size s.width) (x.base + x.len)) (λ m. tt) (λ m. next_cut z)
-    begun_cut z (N.Refused why) = tt
+    begun_cut : x.outstanding ≡ 0 → (n : Result Unit Refusal) → Cut (begun_of s k x t y o n)
+    begun_cut z (Ok tt) = split Cut (ltb (256 ^ field_size s.width) (x.base + x.len)) (λ m. tt) (λ m. next_cut z)
+    begun_cut z (Err why) = tt
 
     hand_cut : CutIn s.phase → Cut (hand_of s k x d t y o)
     unfolding hand_of

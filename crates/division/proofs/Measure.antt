@@ -19,8 +19,6 @@ use Rattle.field.specs.declared.Width.{Width}
 use Rattle.field.specs.declared.Width.TheVariants as WI
 use Rattle.entry.specs.Entry.{entries_in, entry_of, filename_of, length_of}
 use Rattle.filename.specs.Filename.{open_check, after_open_check}
-use Rattle.filename.specs.declared.NameCheck.{NameCheck}
-use Rattle.filename.specs.declared.NameCheck.TheVariants as N
 use Rattle.selection.specs.Selection.{next_of}
 use Rattle.selection.proofs.Laws.{next_from}
 use Rattle.packet.specs.Packet.{length_field, bad_length}
@@ -49,6 +47,8 @@ use Rattle.division.proofs.Cut.{CutIn}
 use Rattle.division.proofs.Window.{keep_keep}
 use Rattle.waiting.specs.Wanted.{region_waits, needs_bytes}
 use Rattle.waiting.proofs.Waiting.{held_within, eight_or_more, keep_header}
+use Rattle.std.specs.Prelude.{Result, Ok, Err}
+use Rattle.refusal.specs.declared.Refusal.{Refusal}
 
 -- n bytes are left, f is the width of an entry's numbers
 abbrev pub steps_at : ℕ → Phase → ℕ → ℕ
@@ -183,10 +183,10 @@ module _ (s : Session) (d set names t y o : List ℕ) (n : ℕ) (room : length d
       omega arith)
       (λ i. let j : x.declared ≤ x.filled + m = ltb-false _ _ i in omega arith)
 
-  open_less : (k i from : ℕ) (e : List ℕ) (c : NameCheck) → from ≤ i → i < entries_in f k
+  open_less : (k i from : ℕ) (e : List ℕ) (c : Result Unit Refusal) → from ≤ i → i < entries_in f k
       → Less (n + 1 + 3 * (entries_in f k - from) + n / 8) (outcome (open_of f s k i e c) t y o)
-  open_less k i from e N.Good a b = let p = two_most (leb (length_of f e) 0) in omega (arith, p)
-  open_less k i from e (N.Refused why) a b = omega arith
+  open_less k i from e (Ok tt) a b = let p = two_most (leb (length_of f e) 0) in omega (arith, p)
+  open_less k i from e (Err why) a b = omega arith
 
   between_less : (k from : ℕ) → Less (n + 1 + 3 * (entries_in f k - from) + n / 8) (outcome (between_of f s k from names t) t y o)
   unfolding between_of
@@ -217,9 +217,9 @@ module _ (s : Session) (d set names t y o : List ℕ) (n : ℕ) (room : length d
         let e : eqb (asks_for s.opening x) 0 ≡ false = ne_eqb (asks_for s.opening x) 0 (λ i. omega arith) in
         rw (m, e) (omega arith))
 
-    begun_less : (c : NameCheck) → Less ask (begun_of s k x t y o c)
-    begun_less N.Good = split (Less ask) (ltb (256 ^ f) (x.base + x.len)) (λ m. omega arith) (λ m. next_less)
-    begun_less (N.Refused why) = omega arith
+    begun_less : (c : Result Unit Refusal) → Less ask (begun_of s k x t y o c)
+    begun_less (Ok tt) = split (Less ask) (ltb (256 ^ f) (x.base + x.len)) (λ m. omega arith) (λ m. next_less)
+    begun_less (Err why) = omega arith
 
     asks_less : Less ask (ask_of s k x t y o)
     unfolding ask_of

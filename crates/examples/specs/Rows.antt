@@ -1,6 +1,6 @@
 -- The computed table. Document 01, "Lengths, modes and stems": "To be proved together, as one computed table". An example has what the definitions give and
 -- what 01 says, or document 02 where a request changed it. The theorem is `table` of proofs/Table.antt.
-use Rattle.std.specs.Prelude.{ℕ, ◌+◌, ◌-◌, ◌^◌, Bool, true, false, List, [], ◌∷◌, ◌++◌, length, replicate, take}
+use Rattle.std.specs.Prelude.{ℕ, ◌+◌, ◌-◌, ◌^◌, Bool, true, false, List, [], ◌∷◌, ◌++◌, length, replicate, take, None, Result, Ok, Err}
 use Rattle.base.specs.Choice.{pick}
 use Rattle.field.specs.Field.{le_bytes, field_size, fields, words}
 use Rattle.field.specs.declared.Width.{Width}
@@ -10,15 +10,10 @@ use Rattle.command.specs.declared.SaharaMode.TheVariants as M
 use Rattle.build.specs.Build.{bytes_of}
 use Rattle.build.specs.declared.Request.TheVariants as Q
 use Rattle.packet.specs.Packet.{length_checked}
-use Rattle.packet.specs.declared.LengthCheck.{LengthCheck}
-use Rattle.packet.specs.declared.LengthCheck.TheVariants as L
 use Rattle.image.specs.Image.{range_of}
-use Rattle.image.specs.declared.ImageRange.{ImageRange}
-use Rattle.image.specs.declared.ImageRange.TheVariants as R
 use Rattle.tidied.specs.Tidy.{tidy_of}
 use Rattle.selection.specs.Selection.{same, selected}
 use Rattle.verdict.specs.Verdict.{verdict_of}
-use Rattle.verdict.specs.declared.ExecCommand.TheVariants as X
 use Rattle.verdict.specs.declared.QdlBackend.TheVariants as U
 use Rattle.verdict.specs.declared.Opening.{Opening}
 use Rattle.verdict.specs.declared.Verdict.{Verdict}
@@ -31,6 +26,7 @@ use Rattle.session.specs.declared.Answer.TheVariants as A
 use Rattle.session.specs.Outcome.{opened_with, in_phase, of_width, filling, region, Outcome}
 use Rattle.session.specs.FillingPhase.{response_of}
 use Rattle.session.specs.Step.{step_of}
+use Rattle.refusal.specs.declared.Refusal.{Refusal}
 
 -- what an example says: accepted, refused with a number, finished with a number, bytes of a set, a stem that matches or not, a packet sent, a region opened or
 -- closed, so many bytes of it handed out, an empty read
@@ -62,9 +58,9 @@ numbers reads_empty = 9 ∷ []
 
 -- ---- how each operation's answer is said
 
-abbrev pub of_length : LengthCheck → Says
-of_length L.Good = ok
-of_length (L.Refused why) = refused why
+abbrev pub of_length : Result Unit Refusal → Says
+of_length (Ok tt) = ok
+of_length (Err why) = refused why
 
 abbrev pub of_verdict : Verdict → Says
 of_verdict (W.Reply q) = sends (bytes_of q)
@@ -75,9 +71,9 @@ of_verdict (W.Respond c k) = ok
 of_verdict (W.Debug v a k) = sends (bytes_of (Q.MemRead v a k))
 of_verdict (W.Refused why) = refused why
 
-abbrev pub of_range : ImageRange → Says
-of_range (R.At x k) = given x k
-of_range (R.Refused why) = refused why
+abbrev pub of_range : Result (ℕ × ℕ) Refusal → Says
+of_range (Ok (x, k)) = given x k
+of_range (Err why) = refused why
 
 -- a step's answer, by the out buffer that it leaves
 abbrev pub of_answer : Answer → List ℕ → Says
@@ -109,7 +105,7 @@ abbrev pub hello_resp : ℕ → List ℕ
 hello_resp mode = packet 2 48 (greeting mode [])
 
 abbrev pub opening : SaharaMode → Opening
-opening m = record { mode = m; command = X.None; backend = U.Serial }
+opening m = record { mode = m; command = None; backend = U.Serial }
 
 -- a set of no image, of one of 10 bytes, and of two
 abbrev pub none : List ℕ

@@ -15,7 +15,6 @@ use Rattle.field.specs.declared.Width.{Width}
 use Rattle.entry.specs.Entry.{entry_size, entry_of, base_of, length_of, filename_of, there}
 use Rattle.entry.proofs.Laws.{entry_of_take}
 use Rattle.filename.specs.Filename.{open_check}
-use Rattle.filename.specs.declared.NameCheck.TheVariants as N
 use Rattle.filename.proofs.Laws.{sound_open, sound_after_open}
 use Rattle.selection.specs.Selection.{selected, selected_at, next_of}
 use Rattle.verdict.specs.declared.Opening.{Opening}
@@ -31,6 +30,8 @@ use Rattle.fetch.proofs.Chunk.{most_reads, reads_more, reads_within, chunk_good,
 use Rattle.fetch.proofs.Ghost.{Ghost}
 use Rattle.fetch.proofs.Device.{no_bytes}
 use Rattle.fetch.proofs.Invariant.{table_at, to_come, GoodBetween, due_between, bound_between, Kept, via, in_region, bound_in, cost}
+use Rattle.std.specs.Prelude.{Ok}
+use Rattle.refusal.specs.Refusal.{accepted}
 
 -- ---- a table t and a buffer b that begins with it: the entries of t are those of b. f is the width of an entry's numbers
 
@@ -239,6 +240,6 @@ module _ (c : Setting) (dbg : Debug) (en : Ending) (k i : ℕ) (w : Ghost) (g : 
         (λ m.
         let h : found < dbg.size / entry_size f = ltb-true _ _ m in
         let q : entry_of f w.table found ≡ e = entry_same f w.table t dbg.size g.table room_for found h in
-        let y : open_check (filename_of f e) ≡ N.Good = sound_open (filename_of f e) (allowed found h (here h).chose).named in
+        let y : open_check (filename_of f e) ≡ accepted = sound_open (filename_of f e) (allowed found h (here h).chose).named in
         via c dbg en (rw (g.declared, m, q, y) refl) (enter h))
         (λ m. via c dbg en (rw (g.declared, m) refl) (finish (ltb-false _ _ m)))

@@ -12,8 +12,6 @@ use Rattle.bundle.specs.Bundle.{well_formed}
 use Rattle.field.specs.Field.{field_size}
 use Rattle.entry.specs.Entry.{entry_of, filename_of, entries_in}
 use Rattle.filename.specs.Filename.{open_check, after_open_check}
-use Rattle.filename.specs.declared.NameCheck.{NameCheck}
-use Rattle.filename.specs.declared.NameCheck.TheVariants as N
 use Rattle.selection.specs.Selection.{next_of}
 use Rattle.packet.specs.Packet.{length_field, bad_length}
 use Rattle.build.specs.Build.{size_of, front}
@@ -46,6 +44,10 @@ use Rattle.fetch.proofs.Ghost.{told_by}
 use Rattle.build.proofs.Laws.{take_front}
 use Rattle.fetch.proofs.Sent.{asks, asks_read, many_append, reads_bytes}
 use Rattle.fetch.proofs.Verdict.{Sane, sane}
+use Rattle.std.specs.Prelude.{Result, Ok, Err}
+use Rattle.refusal.specs.declared.Refusal.{Refusal}
+use Rattle.refusal.specs.declared.Refusal.TheVariants as Refusal
+use Rattle.refusal.specs.Refusal.{accepted}
 
 -- ---- what a list of reports tells, k memory reads having been sent before it: an end carries those sent before it, and comes last
 
@@ -188,7 +190,7 @@ module _ (s : Session) (d set : List ℕ) where
         let v : List ℕ = keep s.window h (take n d) in
         split Counts (ltb (h + length d) 8) (λ e. silent _ (length d) A.Go t y o refl none refl)
         (λ e.
-        split Counts (bad_length (length_field w)) (λ m. silent _ (8 - h) (A.Refused 5) t y o refl tt refl)
+        split Counts (bad_length (length_field w)) (λ m. silent _ (8 - h) (A.Refused Refusal.PacketLength) t y o refl tt refl)
         (λ m.
         split Counts (ltb (h + n) (length_field w)) (λ i. silent _ n A.Go t y o refl none refl)
         (λ i.
@@ -218,9 +220,9 @@ module _ (s : Session) (d set : List ℕ) where
         split Counts (ltb (x.filled + min (x.declared - x.filled) (length d)) x.declared) (λ e. silent _ _ A.Go _ y o refl tt refl)
         (λ e. silent _ _ A.Go _ y o refl tt refl)
 
-    opening_counts : (k i : ℕ) (e : List ℕ) (v : NameCheck) → Counts (outcome (open_of f s k i e v) t y o)
-    opening_counts k i e N.Good = single (opened i) _ 0 (A.Open i) t y o refl tt refl refl refl tt
-    opening_counts k i e (N.Refused why) = silent _ 0 (A.Refused why) t y o refl tt refl
+    opening_counts : (k i : ℕ) (e : List ℕ) (v : Result Unit Refusal) → Counts (outcome (open_of f s k i e v) t y o)
+    opening_counts k i e (Ok tt) = single (opened i) _ 0 (A.Open i) t y o refl tt refl refl refl tt
+    opening_counts k i e (Err why) = silent _ 0 (A.Refused why) t y o refl tt refl
 
     between_counts : (k from : ℕ) → Counts (outcome (between_of f s k from names t) t y o)
     unfolding between_of
@@ -237,10 +239,10 @@ module _ (s : Session) (d set : List ℕ) where
           split Counts (leb x.len x.done) (λ e. single (closed x.entry) _ 0 (A.Close x.entry) t y o refl tt refl refl refl tt)
           (λ e. sends (Q.MemRead s.width _ _) _ 0 t y o (omega arith) tt)
 
-      begun_counts : (v : NameCheck) → Counts (begun_of s k x t y o v)
-      begun_counts N.Good =
+      begun_counts : (v : Result Unit Refusal) → Counts (begun_of s k x t y o v)
+      begun_counts accepted =
           split Counts (ltb (256 ^ f) (x.base + x.len)) (λ e. silent _ 0 (A.Refused (past_end s.width)) t y o refl tt refl) (λ e. next_counts)
-      begun_counts (N.Refused why) = silent _ 0 (A.Refused why) t y o refl tt refl
+      begun_counts (Err why) = silent _ 0 (A.Refused why) t y o refl tt refl
 
       ask_counts : Counts (ask_of s k x t y o)
       unfolding ask_of
@@ -274,7 +276,7 @@ module _ (s : Session) (d set : List ℕ) where
     phase_counts (P.Table x) e = table_counts x
     phase_counts (P.Between k i) e = between_counts k i
     phase_counts (P.Region k x) e = region_counts k x
-    phase_counts (P.Ended k) e = silent s 0 (A.Refused 4) t y o refl calm refl
+    phase_counts (P.Ended k) e = silent s 0 (A.Refused Refusal.Ended) t y o refl calm refl
 
     untouched_counts : (why : ℕ) → Counts (outcome (gives s 0 (A.Refused why)) t y o)
     untouched_counts why = silent s 0 (A.Refused why) t y o refl calm refl

@@ -11,7 +11,6 @@ use Rattle.field.specs.Field.{field_size}
 use Rattle.field.specs.declared.Width.{Width}
 use Rattle.entry.specs.Entry.{entry_size}
 use Rattle.filename.specs.Filename.{after_open_check}
-use Rattle.filename.specs.declared.NameCheck.TheVariants as N
 use Rattle.packet.specs.Packet.{length_field, bad_length}
 use Rattle.verdict.specs.Opening.{on_usb}
 use Rattle.verdict.specs.Verdict.{room}
@@ -46,6 +45,8 @@ use Rattle.fetch.specs.Plain.{
 use Rattle.fetch.specs.Claim.{region_bytes, region_reads}
 use Rattle.fetch.proofs.Chunk.{most_reads, CutAt}
 use Rattle.fetch.proofs.Ghost.{Ghost, told_by, after_step}
+use Rattle.std.specs.Prelude.{Ok}
+use Rattle.refusal.specs.Refusal.{accepted}
 
 -- ---- inside a region
 
@@ -156,7 +157,7 @@ module _ (c : Setting) (dbg : Debug) where
     pub width : w.session.width ≡ dbg.width
     pub entry : x.entry < dbg.size / entry_size (field_size w.session.width)
     pub reads : w.session.reads + chunk_count w.session.opening (unasked x) ≤ 1 + suc x.entry * most_reads w.session.width
-    pub named : after_open_check (name_in w.session.width w.table x) ≡ N.Good
+    pub named : after_open_check (name_in w.session.width w.table x) ≡ accepted
     pub within : x.done + x.outstanding ≤ x.len
     pub top : x.base + x.len ≤ 256 ^ field_size w.session.width
     pub cut : CutAt x

@@ -64,6 +64,7 @@ use Rattle.fetch.proofs.Device.{unserved, served_read, Came, no_longer, first_of
 use Rattle.fetch.proofs.Cutting.{Sized, size_ok, Begins, Halts, starts}
 use Rattle.fetch.proofs.Verdict.{sane}
 use Rattle.fetch.proofs.Invariant.{cost, table_at, to_come, GoodPacket, due_packet, behind, bound_packet, Kept, via}
+use Rattle.refusal.specs.declared.Refusal.TheVariants as Refusal
 
 none : (l : List ℕ) → length l ≡ 0 → l ≡ []
 none [] e = refl
@@ -425,7 +426,7 @@ module _ (c : Setting) (dbg : Debug) (en : Ending) (h : ℕ) (w : Ghost) (g : Go
       here : h + length d ≤ length s
       here = omega (arith, s_length, no_longer d w.queue v)
 
-      bad : Keeps (outcome (gives (ended w.session) (8 - h) (A.Refused 5)) w.table w.reply w.out)
+      bad : Keeps (outcome (gives (ended w.session) (8 - h) (A.Refused Refusal.PacketLength)) w.table w.reply w.out)
       bad = record { good = g.out; told = rw z.heard (reports_stop u c.mem c.names); fell = omega arith }
 
       cut_short : 8 ≤ h + length d → Keeps (sized_of w.session h d size c.set w.table w.reply w.out)

@@ -13,8 +13,6 @@ use Rattle.field.specs.declared.Width.TheVariants as WI
 use Rattle.entry.specs.Entry.{entry_of, filename_of, entries_in}
 use Rattle.utf8.specs.Utf8.{utf8}
 use Rattle.filename.specs.Filename.{before, has, open_check, after_open_check}
-use Rattle.filename.specs.declared.NameCheck.{NameCheck}
-use Rattle.filename.specs.declared.NameCheck.TheVariants as N
 use Rattle.selection.specs.Selection.{next_of}
 use Rattle.packet.specs.Packet.{length_field, bad_length}
 use Rattle.verdict.specs.Verdict.{verdict_of}
@@ -35,6 +33,9 @@ use Rattle.session.specs.Step.{on_phase, step_of}
 use Rattle.fetch.specs.Device.{aside}
 use Rattle.base.proofs.Tests.{split, differ}
 use Rattle.fetch.proofs.Verdict.{Ends, Sane, sane}
+use Rattle.std.specs.Prelude.{Result, Ok, Err}
+use Rattle.refusal.specs.declared.Refusal.{Refusal}
+use Rattle.refusal.specs.Refusal.{accepted}
 
 -- not such a refusal
 abbrev pub Quiet : Outcome → Type 0
@@ -42,9 +43,9 @@ Quiet r = T (aside r.stepped.answer) → ⊥
 
 -- ---- names
 
-abbrev NameSane : NameCheck → Type 0
-NameSane N.Good = Unit
-NameSane (N.Refused why) = Ends why
+abbrev NameSane : Result Unit Refusal → Type 0
+NameSane (Ok tt) = Unit
+NameSane (Err why) = Ends why
 
 opening_sane : (name : List ℕ) → NameSane (open_check name)
 unfolding open_check
@@ -103,9 +104,9 @@ module _ (s : Session) (d set names t y o : List ℕ) where
   unfolding table_of
   table_quiet x = split Quiet (ltb (x.filled + min (x.declared - x.filled) (length d)) x.declared) (λ e h. h) (λ e h. h)
 
-  opening_quiet : (k i : ℕ) (e : List ℕ) (c : NameCheck) → NameSane c → Quiet (outcome (open_of f s k i e c) t y o)
-  opening_quiet k i e N.Good m = λ h. h
-  opening_quiet k i e (N.Refused why) m = rw m (λ h. h)
+  opening_quiet : (k i : ℕ) (e : List ℕ) (c : Result Unit Refusal) → NameSane c → Quiet (outcome (open_of f s k i e c) t y o)
+  opening_quiet k i e (Ok tt) m = λ h. h
+  opening_quiet k i e (Err why) m = rw m (λ h. h)
 
   between_quiet : (k from : ℕ) → Quiet (outcome (between_of f s k from names t) t y o)
   unfolding between_of
@@ -119,10 +120,10 @@ module _ (s : Session) (d set names t y o : List ℕ) where
   unfolding next_chunk
   next_quiet k x = split Quiet (leb x.len x.done) (λ e h. h) (λ e h. h)
 
-  begun_quiet : (k : ℕ) (x : Region) (c : NameCheck) → NameSane c → Quiet (begun_of s k x t y o c)
-  begun_quiet k x N.Good e =
+  begun_quiet : (k : ℕ) (x : Region) (c : Result Unit Refusal) → NameSane c → Quiet (begun_of s k x t y o c)
+  begun_quiet k x accepted e =
       split Quiet (ltb (256 ^ f) (x.base + x.len)) (λ m. rw (past_sane s.width) (λ h. h)) (λ m. next_quiet k x)
-  begun_quiet k x (N.Refused why) e = rw e (λ h. h)
+  begun_quiet k x (Err why) e = rw e (λ h. h)
 
   ask_quiet : (k : ℕ) (x : Region) → Quiet (ask_of s k x t y o)
   unfolding ask_of

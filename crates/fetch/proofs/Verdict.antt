@@ -15,22 +15,14 @@ use Rattle.bundle.specs.Bundle.{count_of, slot_of}
 use Rattle.bundle.specs.declared.Slot.{Slot}
 use Rattle.bundle.specs.declared.Slot.TheVariants as S
 use Rattle.image.specs.Image.{slot_for, range_in, range_unjudged}
-use Rattle.image.specs.declared.ImageRange.{ImageRange}
-use Rattle.image.specs.declared.ImageRange.TheVariants as R
 use Rattle.image.proofs.Laws.{unjudged_within}
 use Rattle.command.specs.Command.{class_of}
 use Rattle.command.specs.declared.Class.{Class}
 use Rattle.command.specs.declared.Class.TheVariants as C
 use Rattle.packet.specs.Packet.{command_field, length_field, kind_of, packet_with, by_class, decode_of}
-use Rattle.packet.specs.declared.Body.{Body}
-use Rattle.packet.specs.declared.Body.TheVariants as Y
 use Rattle.packet.specs.declared.SaharaPacketBody.{SaharaPacketBody}
 use Rattle.packet.specs.declared.SaharaPacketBody.TheVariants as B
-use Rattle.packet.specs.declared.Decoded.{Decoded}
-use Rattle.packet.specs.declared.Decoded.TheVariants as D
 use Rattle.verdict.specs.Verdict.{exactly, image_for, execute_for, room, table_for, on_body, on_decoded, verdict_of}
-use Rattle.verdict.specs.declared.ExecCommand.{ExecCommand}
-use Rattle.verdict.specs.declared.ExecCommand.TheVariants as X
 use Rattle.verdict.specs.declared.Opening.{Opening}
 use Rattle.verdict.specs.declared.Verdict.{Verdict}
 use Rattle.verdict.specs.declared.Verdict.TheVariants as W
@@ -38,6 +30,11 @@ use Rattle.session.specs.declared.Answer.TheVariants as A
 use Rattle.fetch.specs.Device.{aside}
 use Rattle.base.proofs.Tests.{split}
 use Rattle.fetch.proofs.Sent.{asks}
+use Rattle.std.specs.Prelude.{Option, Some, None, Result, Ok, Err}
+use Rattle.refusal.specs.declared.Refusal.{Refusal}
+use Rattle.refusal.specs.declared.Refusal.TheVariants as Refusal
+use Rattle.packet.specs.declared.SaharaPacket.{SaharaPacket}
+use Rattle.command.specs.declared.SaharaCmdModeCmd.{SaharaCmdModeCmd}
 
 -- a refusal is none of those that leave all untouched
 abbrev pub Ends : ℕ → Type 0
@@ -45,13 +42,13 @@ Ends why = aside (A.Refused why) ≡ false
 
 -- ---- what decoding refuses
 
-abbrev DecodedSane : Decoded → Type 0
-DecodedSane (D.Is p) = Unit
-DecodedSane (D.Refused why) = Ends why
+abbrev DecodedSane : Result SaharaPacket Refusal → Type 0
+DecodedSane (Ok p) = Unit
+DecodedSane (Err why) = Ends why
 
-packet_sane : (len : ℕ) (b : Body) → DecodedSane (packet_with len b)
-packet_sane len (Y.Is b) = tt
-packet_sane len Y.Malformed = refl
+packet_sane : (len : ℕ) (b : Result SaharaPacketBody Refusal) → DecodedSane (packet_with len b)
+packet_sane len (Ok b) = tt
+packet_sane len (Err Refusal.Body) = refl
 
 class_sane : (p : List ℕ) (c : Class) → DecodedSane (by_class p c)
 class_sane p (C.Kind k) = packet_sane (length_field p) (kind_of p k)
@@ -80,10 +77,10 @@ module _ (u : Opening) (set : List ℕ) (tsize rsize : ℕ) where
   Fine v = Sane set tsize v
 
   -- a range that is refused is so with 12 or 13
-  slot_refused : (s : Slot) (offset len why : ℕ) → range_in s offset len ≡ R.Refused why → Ends why
+  slot_refused : (s : Slot) (offset len why : ℕ) → range_in s offset len ≡ Err why → Ends why
   slot_refused (S.At start size) offset len why e = go (leb (offset + len) size) e
     where
-      go : (b : Bool) → pick b (R.At (start + offset) len) (R.Refused 13) ≡ R.Refused why → Ends why
+      go : (b : Bool) → pick b (Ok (start + offset, len)) (Err Refusal.ImageEnd) ≡ Err why → Ends why
       go true h = absurd (let z : ◌≡◌ {A = ℕ} 0 1 = cc in omega arith)
       go false h = let z : why ≡ 13 = cc in rw z refl
   slot_refused S.Absent offset len why e = let z : why ≡ 12 = cc in rw z refl
@@ -92,13 +89,13 @@ module _ (u : Opening) (set : List ℕ) (tsize rsize : ℕ) where
   image_sane : (id offset len : ℕ) → Fine (image_for (range_unjudged set id offset len))
   image_sane id offset len = go (range_unjudged set id offset len) refl
     where
-      go : (r : ImageRange) → range_unjudged set id offset len ≡ r → Fine (image_for r)
-      go (R.At x k) e = (unjudged_within set id offset len x k e).0
-      go (R.Refused why) e = slot_refused (slot_of set (slot_for (count_of set) id)) offset len why e
+      go : (r : Result (ℕ × ℕ) Refusal) → range_unjudged set id offset len ≡ r → Fine (image_for r)
+      go (Ok (x, k)) e = (unjudged_within set id offset len x k e).0
+      go (Err why) e = slot_refused (slot_of set (slot_for (count_of set) id)) offset len why e
 
-  execute_sane : (c : ExecCommand) → Fine (execute_for c)
-  execute_sane (X.Is c) = refl
-  execute_sane X.None = refl
+  execute_sane : (c : Option SaharaCmdModeCmd) → Fine (execute_for c)
+  execute_sane (Some c) = refl
+  execute_sane None = refl
 
   table_sane : (len n : ℕ) (v : Width) (a k : ℕ) → Fine (exactly len n (table_for tsize v a k))
   table_sane len n v a k = split Fine (eqb len n) (λ e. split Fine (ltb (room tsize) k) (λ i. refl) (λ i. ltb-false _ _ i)) (λ e. refl)
@@ -120,9 +117,9 @@ module _ (u : Opening) (set : List ℕ) (tsize rsize : ℕ) where
   on_body_lem len (B.ReadMem64Req b) = refl
   on_body_lem len (B.ReadData64Req b) = split Fine (eqb len 32) (λ e. image_sane b.image b.offset b.len) (λ e. refl)
 
-  on_decoded_lem : (x : Decoded) → DecodedSane x → Fine (on_decoded u set tsize rsize x)
-  on_decoded_lem (D.Is p) e = on_body_lem p.len p.body
-  on_decoded_lem (D.Refused why) e = e
+  on_decoded_lem : (x : Result SaharaPacket Refusal) → DecodedSane x → Fine (on_decoded u set tsize rsize x)
+  on_decoded_lem (Ok p) e = on_body_lem p.len p.body
+  on_decoded_lem (Err why) e = e
 
   pub sane : (p : List ℕ) → Sane set tsize (verdict_of u set tsize rsize p)
   unfolding verdict_of

@@ -13,8 +13,6 @@ use Rattle.bundle.specs.Bundle.{well_formed}
 use Rattle.field.specs.Field.{field_size}
 use Rattle.entry.specs.Entry.{entry_size, entry_of, filename_of, entries_in}
 use Rattle.filename.specs.Filename.{open_check, after_open_check}
-use Rattle.filename.specs.declared.NameCheck.{NameCheck}
-use Rattle.filename.specs.declared.NameCheck.TheVariants as N
 use Rattle.selection.specs.Selection.{next_of}
 use Rattle.packet.specs.Packet.{length_field, bad_length}
 use Rattle.build.specs.Build.{size_of, front}
@@ -46,6 +44,10 @@ use Rattle.base.proofs.Tests.{split, differ, neither}
 use Rattle.fetch.proofs.Basics.{entry_end}
 use Rattle.fetch.proofs.Sent.{length_out}
 use Rattle.fetch.proofs.Verdict.{Sane, sane}
+use Rattle.std.specs.Prelude.{Result, Ok, Err}
+use Rattle.refusal.specs.declared.Refusal.{Refusal}
+use Rattle.refusal.specs.declared.Refusal.TheVariants as Refusal
+use Rattle.refusal.specs.Refusal.{accepted}
 
 module _ (s : Session) (d set names t y o : List ℕ) where
   -- the bytes of the session's numbers
@@ -111,7 +113,7 @@ module _ (s : Session) (d set names t y o : List ℕ) where
         split Keeps (ltb (h + length d) 8) (λ e. plainly _ (length d) A.Go (omega arith) tt (λ i. tt))
         (λ e.
         split Keeps (bad_length (length_field w))
-        (λ m. plainly _ (8 - h) (A.Refused 5) (omega (arith, ltb-false (h + length d) 8 e)) tt (λ i. no_reply))
+        (λ m. plainly _ (8 - h) (A.Refused Refusal.PacketLength) (omega (arith, ltb-false (h + length d) 8 e)) tt (λ i. no_reply))
         (λ m.
         split Keeps (ltb (h + n) (length_field w)) (λ i. plainly _ n A.Go (omega arith) tt (λ j. tt))
         (λ i.
@@ -165,9 +167,9 @@ module _ (s : Session) (d set names t y o : List ℕ) where
     entry_in_lem : (k i : ℕ) → k ≤ length t → i < entries_in f k → entry_size f * (i + 1) ≤ length t
     entry_in_lem k i h l = omega (arith, entry_end f k i l)
 
-    open_within : (k i : ℕ) (e : List ℕ) (c : NameCheck) → entry_size f * (i + 1) ≤ length t → Keeps (outcome (open_of f s k i e c) t y o)
-    open_within k i e N.Good h = plainly _ 0 (A.Open i) none h (λ j. tt)
-    open_within k i e (N.Refused why) h = plainly _ 0 (A.Refused why) none tt (λ j. no_reply)
+    open_within : (k i : ℕ) (e : List ℕ) (c : Result Unit Refusal) → entry_size f * (i + 1) ≤ length t → Keeps (outcome (open_of f s k i e c) t y o)
+    open_within k i e (Ok tt) h = plainly _ 0 (A.Open i) none h (λ j. tt)
+    open_within k i e (Err why) h = plainly _ 0 (A.Refused why) none tt (λ j. no_reply)
 
     between_within : (k from : ℕ) → k ≤ length t → Keeps (outcome (between_of f s k from names t) t y o)
     unfolding between_of
@@ -184,10 +186,10 @@ module _ (s : Session) (d set names t y o : List ℕ) where
           split Keeps (leb x.len x.done) (λ m. plainly _ 0 (A.Close x.entry) none h (λ j. tt))
           (λ m. sends (Q.MemRead s.width _ _) _ 0 none (λ j. tt))
 
-      begun_within : (c : NameCheck) → Keeps (begun_of s k x t y o c)
-      begun_within N.Good =
+      begun_within : (c : Result Unit Refusal) → Keeps (begun_of s k x t y o c)
+      begun_within accepted =
           split Keeps (ltb (256 ^ f) (x.base + x.len)) (λ m. plainly _ 0 (A.Refused (past_end s.width)) none tt (λ j. no_reply)) (λ m. next_within)
-      begun_within (N.Refused why) = plainly _ 0 (A.Refused why) none tt (λ j. no_reply)
+      begun_within (Err why) = plainly _ 0 (A.Refused why) none tt (λ j. no_reply)
 
       ask_within : Keeps (ask_of s k x t y o)
       unfolding ask_of

@@ -13,8 +13,6 @@ use Rattle.field.specs.Field.{field_size}
 use Rattle.entry.specs.Entry.{entry_of, filename_of, entries_in}
 use Rattle.entry.specs.declared.RamdumpTable64.{RamdumpTable64}
 use Rattle.filename.specs.Filename.{open_check, after_open_check}
-use Rattle.filename.specs.declared.NameCheck.{NameCheck}
-use Rattle.filename.specs.declared.NameCheck.TheVariants as N
 use Rattle.selection.specs.Selection.{next_of}
 use Rattle.session.specs.declared.Region.{Region}
 use Rattle.session.specs.declared.Phase.{Phase}
@@ -33,6 +31,9 @@ use Rattle.fetch.specs.Device.{Lent, lent, delivered, kept, World}
 use Rattle.fetch.proofs.Counter.{after}
 use Rattle.fetch.proofs.Lent.{kept_lent}
 use Rattle.fetch_forecast.specs.Claim.{DecodesIn, Decodes}
+use Rattle.std.specs.Prelude.{Result, Ok, Err}
+use Rattle.refusal.specs.declared.Refusal.{Refusal}
+use Rattle.refusal.specs.declared.Refusal.TheVariants as Refusal
 
 -- the table has come: it decodes to a list, the numbers being of f bytes and b the buffer; or the session has ended
 abbrev Had : ℕ → Phase → List ℕ → Type 0
@@ -53,9 +54,9 @@ module _ (b : List ℕ) (s : Session) (d set names t y o : List ℕ) where
   abbrev f : ℕ
   f = field_size s.width
 
-  opening_leaves : (k i : ℕ) (e : List ℕ) (c : NameCheck) → Leaves (outcome (open_of f s k i e c) t y o)
-  opening_leaves k i e N.Good = plainly _ 0 (A.Open i) o (inl (_, refl))
-  opening_leaves k i e (N.Refused why) = plainly _ 0 (A.Refused why) o (inr tt)
+  opening_leaves : (k i : ℕ) (e : List ℕ) (c : Result Unit Refusal) → Leaves (outcome (open_of f s k i e c) t y o)
+  opening_leaves k i e (Ok tt) = plainly _ 0 (A.Open i) o (inl (_, refl))
+  opening_leaves k i e (Err why) = plainly _ 0 (A.Refused why) o (inr tt)
 
   between_leaves : (k from : ℕ) → Leaves (outcome (between_of f s k from names t) t y o)
   unfolding between_of
@@ -71,9 +72,9 @@ module _ (b : List ℕ) (s : Session) (d set names t y o : List ℕ) where
       next_leaves =
           split Leaves (leb x.len x.done) (λ e. plainly _ 0 (A.Close x.entry) o (inl (_, refl))) (λ e. plainly _ 0 (A.Send _) _ (inl (_, refl)))
 
-      begun_leaves : (c : NameCheck) → Leaves (begun_of s k x t y o c)
-      begun_leaves N.Good = split Leaves (ltb (256 ^ f) (x.base + x.len)) (λ e. plainly _ 0 (A.Refused _) o (inr tt)) (λ e. next_leaves)
-      begun_leaves (N.Refused why) = plainly _ 0 (A.Refused why) o (inr tt)
+      begun_leaves : (c : Result Unit Refusal) → Leaves (begun_of s k x t y o c)
+      begun_leaves (Ok tt) = split Leaves (ltb (256 ^ f) (x.base + x.len)) (λ e. plainly _ 0 (A.Refused _) o (inr tt)) (λ e. next_leaves)
+      begun_leaves (Err why) = plainly _ 0 (A.Refused why) o (inr tt)
 
       ask_leaves : Leaves (ask_of s k x t y o)
       unfolding ask_of
@@ -96,19 +97,19 @@ module _ (b : List ℕ) (s : Session) (d set names t y o : List ℕ) where
     phase_leaves (P.Table x) e = not_had e
     phase_leaves (P.Between k i) e = between_leaves k i
     phase_leaves (P.Region k x) e = region_leaves k x
-    phase_leaves (P.Ended k) e = plainly s 0 (A.Refused 4) o h
+    phase_leaves (P.Ended k) e = plainly s 0 (A.Refused Refusal.Ended) o h
 
     step_leaves : Leaves (step_of s d set names t y o)
     unfolding step_of
     step_leaves =
-        split Leaves (not (well_formed true set)) (λ e. plainly s 0 (A.Refused 1) o h)
+        split Leaves (not (well_formed true set)) (λ e. plainly s 0 (A.Refused Refusal.ImageSet) o h)
         (λ e.
-        split Leaves (not (well_formed false names)) (λ i. plainly s 0 (A.Refused 2) o h)
+        split Leaves (not (well_formed false names)) (λ i. plainly s 0 (A.Refused Refusal.NameList) o h)
         (λ i.
-        split Leaves (ltb (length o) 48) (λ j. plainly s 0 (A.Refused 3) o h)
+        split Leaves (ltb (length o) 48) (λ j. plainly s 0 (A.Refused Refusal.OutBuffer) o h)
         (λ j.
-        split Leaves (is_ended s.phase) (λ k. plainly s 0 (A.Refused 4) o h)
-        (λ k. split Leaves (limit_of s t y) (λ l. plainly s 0 (A.Refused 18) o h) (λ l. phase_leaves s.phase h)))))
+        split Leaves (is_ended s.phase) (λ k. plainly s 0 (A.Refused Refusal.Ended) o h)
+        (λ k. split Leaves (limit_of s t y) (λ l. plainly s 0 (A.Refused Refusal.Limit) o h) (λ l. phase_leaves s.phase h)))))
 
 module _ (c : Setting) where
   stays : (b : List ℕ) (ls : List Lent) (w : World Session) → Had (field_size w.state.width) w.state.phase b

@@ -17,8 +17,6 @@ use Rattle.field.specs.Field.{field_size}
 use Rattle.entry.specs.Entry.{entry_of, length_of, filename_of, entries_in, entry_in, entries_from, entries_of}
 use Rattle.entry.specs.declared.RamdumpTable64.{RamdumpTable64}
 use Rattle.filename.specs.Filename.{open_check, after_open_check}
-use Rattle.filename.specs.declared.NameCheck.{NameCheck}
-use Rattle.filename.specs.declared.NameCheck.TheVariants as N
 use Rattle.selection.specs.Selection.{next_of}
 use Rattle.packet.specs.Packet.{length_field, bad_length}
 use Rattle.build.specs.Build.{size_of, front}
@@ -55,6 +53,10 @@ use Rattle.fetch.proofs.Sent.{none_of_bytes}
 use Rattle.fetch.proofs.Verdict.{Sane, sane}
 use Rattle.fetch_forecast.specs.Claim.{is_opened, is_byte, DecodesIn, Decodes, is_refused}
 use Rattle.fetch_forecast.proofs.Counting.{bytes_bytes, selected_chosen, summed_bytes, summed_reads}
+use Rattle.std.specs.Prelude.{Result, Ok, Err}
+use Rattle.refusal.specs.declared.Refusal.{Refusal}
+use Rattle.refusal.specs.declared.Refusal.TheVariants as Refusal
+use Rattle.refusal.specs.Refusal.{accepted}
 
 -- ---- finished (3)
 
@@ -221,7 +223,7 @@ module _ (u : Opening) (names : List ℕ) where
           let v : List ℕ = keep s.window h (take j d) in
           split (Goes (P.Packet h)) (ltb (h + length d) 8) (λ e. early _ (length d) A.Go o refl refl refl x refl)
           (λ e.
-          split (Goes (P.Packet h)) (bad_length (length_field w)) (λ i. early _ (8 - h) (A.Refused 5) o refl refl refl tt refl)
+          split (Goes (P.Packet h)) (bad_length (length_field w)) (λ i. early _ (8 - h) (A.Refused Refusal.PacketLength) o refl refl refl tt refl)
           (λ i.
           split (Goes (P.Packet h)) (ltb (h + j) (length_field w)) (λ a. early _ j A.Go o refl refl refl x refl)
           (λ a.
@@ -309,10 +311,10 @@ module _ (u : Opening) (names : List ℕ) where
             miss f b (take k b) k refl fits_own names (entries_in f k - from) from (omega (arith, g)) (omega (arith, g, h, found_own)) in
             all_done f b k es n m s.reads fits_own (subst (λ (is : List ℕ). Left f b k is n m s.reads 0 0) r l) e
 
-      opening_goes : (c : NameCheck) → found < entries_in f k → LentBy (outcome (open_of f s k found (entry_of f t found) c) t y o)
+      opening_goes : (c : Result Unit Refusal) → found < entries_in f k → LentBy (outcome (open_of f s k found (entry_of f t found) c) t y o)
           → Goes (P.Between k from) (outcome (open_of f s k found (entry_of f t found) c) t y o)
       unfolding how_many
-      opening_goes N.Good h w =
+      opening_goes accepted h w =
           let x = opens_left (owned w) h in
           record {
             kept =
@@ -325,7 +327,7 @@ module _ (u : Opening) (names : List ℕ) where
             last = λ q e. other (A.Open found) refl q e;
             ends = λ q e es v. other (A.Open found) refl q e;
           }
-      opening_goes (N.Refused why) h w = over (P.Between k from) 0 why
+      opening_goes (Err why) h w = over (P.Between k from) 0 why
 
       between_goes : LentBy (outcome (between_of f s k from names' t) t y o) → Goes (P.Between k from) (outcome (between_of f s k from names' t) t y o)
       unfolding between_of how_many
@@ -394,10 +396,10 @@ module _ (u : Opening) (names : List ℕ) where
           (λ i. quiet p _ 0 (A.Close x.entry) t y o refl refl refl (rw stays (closes_left (leb-true _ _ i))) refl (λ es v. inl (here es v)))
           (λ i. quiet p _ 0 (A.Send _) t y _ refl refl refl (rw (stays, opens) (asks_left e (leb-false _ _ i))) refl (λ es v. inl (here es v)))
 
-      begun_goes : x.outstanding ≡ 0 → (c : NameCheck) → Goes p (begun_of s k x t y o c)
-      begun_goes e N.Good =
+      begun_goes : x.outstanding ≡ 0 → (c : Result Unit Refusal) → Goes p (begun_of s k x t y o c)
+      begun_goes e accepted =
           split (Goes p) (ltb (256 ^ f) (x.base + x.len)) (λ i. over p 0 (past_end s.width)) (λ i. next_goes e)
-      begun_goes e (N.Refused why) = over p 0 why
+      begun_goes e (Err why) = over p 0 why
 
       ask_goes : x.outstanding ≡ 0 → Goes p (ask_of s k x t y o)
       unfolding ask_of
@@ -441,7 +443,7 @@ module _ (u : Opening) (names : List ℕ) where
         let i : Bool = ltb (length t) k || leb (entries_in f k) x.entry in
         let j : Bool = ltb x.len (x.done + x.outstanding) in
         region_goes k x e l (ltb-false _ _ (neither i j (neither (i || j) _ g).0).1)
-    phase_goes (P.Ended k) e l g w = still (P.Ended k) e tt 0 (A.Refused 4) refl refl refl
+    phase_goes (P.Ended k) e l g w = still (P.Ended k) e tt 0 (A.Refused Refusal.Ended) refl refl refl
 
     module _ (l : LeftIn f s.phase b n m s.reads) where
       untouched_goes : (why : ℕ) → Goes s.phase (outcome (gives s 0 (A.Refused why)) t y o)

@@ -24,7 +24,6 @@ use Rattle.verdict.specs.Opening.{chunk_of, on_usb}
 use Rattle.verdict.specs.Verdict.{verdict_of}
 use Rattle.verdict.specs.declared.QdlBackend.{QdlBackend}
 use Rattle.verdict.specs.declared.QdlBackend.TheVariants as U
-use Rattle.verdict.specs.declared.ExecCommand.TheVariants as X
 use Rattle.verdict.specs.declared.Opening.{Opening}
 use Rattle.session.specs.PacketPhase.{whole_of, sized_of, packet_of}
 use Rattle.session.specs.FillingPhase.{table_of}
@@ -60,6 +59,7 @@ use Rattle.fetch.specs.Device.{definitions, own, other, first, another, Lent, se
 use Rattle.fetch.specs.Claim.{Run, reports, region_bytes, region_reads, enough, Premises, Covered, dumps, stops, enough_for}
 use Rattle.fetch.proofs.Played.{lending, drive, drive_fair, drive_owns, all_fair, played_fair, tested}
 use Rattle.fetch.proofs.Theorem.{fetch}
+use Rattle.std.specs.Prelude.{None}
 
 -- ---- deliveries of every size lead to the plain host's whole report
 
@@ -118,7 +118,7 @@ opening_bytes v =
     ++ (words (3 ∷ 20 ∷ 7 ∷ 1 ∷ 2 ∷ []) ++ (words (4 ∷ 16 ∷ 7 ∷ 0 ∷ []) ++ debug_bytes v 0 (table_size v)))
 
 abbrev pub on : QdlBackend → Opening
-on b = record { mode = M.MemoryDebug; command = X.None; backend = b }
+on b = record { mode = M.MemoryDebug; command = None; backend = b }
 
 -- the table, and computed bytes behind it; one image of 3 bytes; the names "ocimem" and "ddrcs0"; a table buffer of its size, no reply buffer, 48 bytes out
 abbrev device : Width → QdlBackend → Setting

@@ -12,7 +12,9 @@ use Rattle.base.specs.Choice.{pick}
 use Rattle.utf8.specs.Utf8.{utf8}
 use Rattle.utf8.proofs.Laws.{cut}
 use Rattle.filename.specs.Filename.{before, has, stem_of, open_check, after_open_check, sound}
-use Rattle.filename.specs.declared.NameCheck.TheVariants as N
+use Rattle.std.specs.Prelude.{Err}
+use Rattle.refusal.specs.declared.Refusal.TheVariants as Refusal
+use Rattle.refusal.specs.Refusal.{accepted}
 
 -- the bytes before the first b are a beginning
 pub before_take : (b : ℕ) (s : List ℕ) → before b s ≡ take (length (before b s)) s
@@ -93,13 +95,13 @@ length_stem name = by (utf8 name) where
   by false = omega arith
 
 -- opening refuses a name without zero byte with 19
-pub opening_none : (name : List ℕ) → length name ≤ length (before 0 name) → open_check name ≡ N.Refused 19
+pub opening_none : (name : List ℕ) → length name ≤ length (before 0 name) → open_check name ≡ Err Refusal.FilenameEnd
 unfolding open_check
 opening_none name h = rw (has_none 0 name h)
 
 -- and goes by the k bytes before the first zero where there is one
 pub opening_one : (name : List ℕ) (k : ℕ) (t : Bool) → k ≡ length (before 0 name) → k < length name → t ≡ utf8 (take k name)
-    → open_check name ≡ pick t N.Good (N.Refused 20)
+    → open_check name ≡ pick t accepted (Err Refusal.Filename)
 unfolding open_check
 opening_one name k t e l u =
     let h : has 0 name ≡ true = has_one 0 name (omega arith) in
@@ -123,7 +125,7 @@ utf8_before b s l h u =
     rw (before_take b s) (cut s (length (before b s)) k (rw (at_before b s k) l) u)
 
 -- opening a region does not refuse a sound name
-pub sound_open : (name : List ℕ) → sound name ≡ true → open_check name ≡ N.Good
+pub sound_open : (name : List ℕ) → sound name ≡ true → open_check name ≡ accepted
 unfolding sound open_check
 sound_open name e =
     let u : utf8 name ≡ true = sound_utf8 (utf8 name) (has 0 name) e in
@@ -131,6 +133,6 @@ sound_open name e =
     rw (h, utf8_before 0 name (lit< tt) h u)
 
 -- nor does the step after open
-pub sound_after_open : (name : List ℕ) → sound name ≡ true → after_open_check name ≡ N.Good
+pub sound_after_open : (name : List ℕ) → sound name ≡ true → after_open_check name ≡ accepted
 unfolding sound after_open_check
 sound_after_open name e = rw (sound_utf8 (utf8 name) (has 0 name) e)

@@ -5,11 +5,7 @@ ghost use Rattle.std.specs.Prelude.{◌≡◌, length};
 ghost use Rattle.base.specs.Told.{Tells};
 ghost use Rattle.filename.specs.Filename.{before, stem_of, open_check, after_open_check, name_told};
 
-#[derive(Clone, Copy)]
-pub enum NameCheck {
-    Good,
-    Refused(u8),
-}
+use refusal::Refusal;
 
 // How many bytes stand before the first b, all where there is none.
 pub fn find(name: &[u8], b: u8) -> usize
@@ -36,26 +32,27 @@ pub fn stem_len(name: &[u8]) -> usize
 }
 
 // What opening a region says of its name.
-pub fn check_open(name: &[u8]) -> NameCheck
+pub fn check_open(name: &[u8]) -> Result<(), Refusal>
     ensures { Tells name_told result (open_check name.now) }
 {
     let n = name.len();
     let k = find(name, 0);
     if k == n {
-        return NameCheck::Refused(19);
+        return Err(Refusal::FilenameEnd);
     }
     if utf8::valid(&name[..k]) {
-        return NameCheck::Good;
+        return Ok(());
     }
-    NameCheck::Refused(20)
+    Err(Refusal::Filename)
 }
 
 // What the step after open says of it.
-pub fn check_after_open(name: &[u8]) -> NameCheck
+#[tactic(auto, unfolding(crate::specs::Filename::after_open_check))]
+pub fn check_after_open(name: &[u8]) -> Result<(), Refusal>
     ensures { Tells name_told result (after_open_check name.now) }
 {
     if utf8::valid(name) {
-        return NameCheck::Good;
+        return Ok(());
     }
-    NameCheck::Refused(21)
+    Err(Refusal::FilenameBytes)
 }

@@ -12,6 +12,7 @@ use Rattle.forecast_sums.specs.Sums.{refused_sums, start_of, more_of, add_all, f
 use Rattle.forecast_sums.specs.declared.Foreseen.{Foreseen}
 use Rattle.forecast_sums.specs.declared.Foreseen.TheVariants as F
 use Rattle.forecast_sums.specs.declared.Sums.{Sums}
+use Rattle.refusal.specs.declared.Refusal.TheVariants as Refusal
 
 -- ---- the chunk
 
@@ -23,16 +24,16 @@ chunk_is u = refl
 -- ---- 27, or the numbers
 
 abbrev judged : ℕ → ℕ → ℕ → Foreseen
-judged n b r = pick (passes b || passes r) (F.Refused 27) (F.Needs n b r)
+judged n b r = pick (passes b || passes r) (F.Refused Refusal.ForecastSum) (F.Needs n b r)
 
 -- a number that is not less passes too
 passes_more : (a b : ℕ) → passes a ≡ true → a ≤ b → passes b ≡ true
 passes_more a b e h = lt-ltb (2 ^ 64 - 1) b (omega (arith, ltb-true (2 ^ 64 - 1) a e))
 
-judged_bytes : (n b r : ℕ) → passes b ≡ true → judged n b r ≡ F.Refused 27
+judged_bytes : (n b r : ℕ) → passes b ≡ true → judged n b r ≡ F.Refused Refusal.ForecastSum
 judged_bytes n b r e = rw e refl
 
-judged_reads : (n b r : ℕ) → passes r ≡ true → judged n b r ≡ F.Refused 27
+judged_reads : (n b r : ℕ) → passes r ≡ true → judged n b r ≡ F.Refused Refusal.ForecastSum
 judged_reads n b r e = by_test (passes b) (λ h. rw h refl) (λ h. rw (h, e) refl)
 
 -- ---- an answer that is no refusal
@@ -65,7 +66,7 @@ module _ (c : ℕ) (names : List ℕ) where
   stays [] s h = refl
   stays (e ∷ es) s h = rw (h, either (is_selected names e) s) (stays es s h)
 
-  refused_27 : (es : List RamdumpTable64) → foreseen_of (add_all c names (refused_sums 27) es) ≡ F.Refused 27
+  refused_27 : (es : List RamdumpTable64) → foreseen_of (add_all c names (refused_sums 27) es) ≡ F.Refused Refusal.ForecastSum
   refused_27 es = rw (stays es (refused_sums 27) refl) refl
 
   -- what the entries es behind sums come to

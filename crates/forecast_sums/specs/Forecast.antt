@@ -11,6 +11,7 @@ use Rattle.selection.specs.Selection.{selected_by}
 use Rattle.verdict.specs.Opening.{chunks_in}
 use Rattle.forecast_sums.specs.declared.Foreseen.{Foreseen}
 use Rattle.forecast_sums.specs.declared.Foreseen.TheVariants as F
+use Rattle.refusal.specs.declared.Refusal.TheVariants as Refusal
 
 -- an entry is selected
 unfoldable pub is_selected : List ℕ → RamdumpTable64 → Bool
@@ -43,8 +44,8 @@ passes n = nat_lt (2 ^ 64 - 1) n
 -- 26, 27, or the three numbers. (The regions are no more than the list's entries)
 unfoldable pub forecast_of : ℕ → List RamdumpTable64 → List ℕ → Foreseen
 forecast_of c es names =
-    pick (not (well_formed false names)) (F.Refused 26)
-    (pick (passes (bytes_needed names es) || passes (reads_needed c names es)) (F.Refused 27)
+    pick (not (well_formed false names)) (F.Refused Refusal.ForecastNames)
+    (pick (passes (bytes_needed names es) || passes (reads_needed c names es)) (F.Refused Refusal.ForecastSum)
     (F.Needs (regions_needed names es) (bytes_needed names es) (reads_needed c names es)))
 
 -- what every promise of a forecast takes for c, no session being at hand there: the chunk of each session, whatever it is opened with (`chunk_is` of

@@ -14,7 +14,7 @@ use selection::selects;
 #[derive(Clone, Copy)]
 pub enum Foreseen {
     Needs(u64, u64, u64),
-    Refused(u8),
+    Refused(Refusal),
 }
 
 // The same while a list is gone through; refused is 0 while nothing is.
@@ -41,7 +41,7 @@ fn chunk_reads(len: u64) -> u64
 }
 
 // Nothing counts behind a refusal.
-fn refuse(why: u8) -> Sums
+fn refuse(why: Refusal) -> Sums
     ensures { result ≡ refused_sums why }
 {
     Sums {
@@ -56,8 +56,8 @@ fn refuse(why: u8) -> Sums
 pub fn start(names: &[u8]) -> Sums
     ensures { result ≡ start_of names.now }
 {
-    let Checked::Good = check_names(names) else {
-        return refuse(26);
+    let Ok(()) = check_names(names) else {
+        return refuse(Refusal::ForecastNames);
     };
     Sums {
         regions: 0,
@@ -76,10 +76,10 @@ pub fn more(s: Sums, len: u64) -> Sums
     }
     let reads = chunk_reads(len);
     if u64::MAX - s.bytes < len {
-        return refuse(27);
+        return refuse(Refusal::ForecastSum);
     }
     if u64::MAX - s.reads < reads {
-        return refuse(27);
+        return refuse(Refusal::ForecastSum);
     }
     Sums {
         regions: std::num::wrapping_add_u64(s.regions, 1),

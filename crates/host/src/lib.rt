@@ -21,7 +21,7 @@ use turn::{moved, untouched};
 use verdict::{ExecCommand, Opening, QdlBackend};
 
 // A session, opened with a mode, a command or none, and a backend.
-pub fn open(mode: SaharaMode, command: ExecCommand, backend: QdlBackend) -> Session
+pub fn open(mode: SaharaMode, command: Option<SaharaCmdModeCmd>, backend: QdlBackend) -> Session
     ensures { result ≡ opened_with (opening mode command backend) }
 {
     Session {
@@ -60,9 +60,9 @@ pub fn phase_step(
         Phase::Region(k, x) => region_step(s, k, x, delivery, table, reply, out),
         Phase::Ended(_) => {
             if out.len() < 48 {
-                return untouched(s, 3);
+                return untouched(s, Refusal::OutBuffer);
             }
-            untouched(s, 4)
+            untouched(s, Refusal::Ended)
         }
     }
 }
@@ -80,11 +80,11 @@ pub fn step(
     ensures { Tells outcome_told (outcome result table.new reply.new out.new)
         (step_of s delivery.now set.now names.now table.old reply.old out.old) }
 {
-    let Checked::Good = check_images(set) else {
-        return untouched(s, 1);
+    let Ok(()) = check_images(set) else {
+        return untouched(s, Refusal::ImageSet);
     };
-    let Checked::Good = check_names(names) else {
-        return untouched(s, 2);
+    let Ok(()) = check_names(names) else {
+        return untouched(s, Refusal::NameList);
     };
     let p = s.phase;
     phase_step(s, p, delivery, set, names, table, reply, out)
@@ -110,7 +110,7 @@ pub fn closed(s: Session) -> Stepped
 {
     let p = s.phase;
     if is_ended(p) {
-        return untouched(s, 4);
+        return untouched(s, Refusal::Ended);
     }
-    moved(s, Phase::Ended(0), 0, Answer::Refused(23))
+    moved(s, Phase::Ended(0), 0, Answer::Refused(Refusal::Closed))
 }

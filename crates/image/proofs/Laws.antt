@@ -1,5 +1,5 @@
 -- Laws of image ranges: an answer lies within the set, and its bytes are the image's from the offset on; what the check of the set adds.
-use mathlib.Core.Path.{◌≡◌, refl}
+use mathlib.Core.Path.{◌≡◌, refl, ap}
 use mathlib.Core.Bool.{true, false}
 use mathlib.Core.List.{List}
 use Prim.Native.Nat.{ℕ, ◌+◌, ◌≤◌}
@@ -15,9 +15,11 @@ use Rattle.bundle.specs.declared.Slot.{Slot}
 use Rattle.bundle.specs.declared.Slot.TheVariants.{At, Absent, Missing}
 use Rattle.bundle.proofs.Laws.{slot_within}
 use Rattle.image.specs.Image.{slot_for, range_in, range_unjudged, range_of}
-use Rattle.image.specs.declared.ImageRange.TheVariants as R
+use Rattle.std.specs.Prelude.{Err, Ok}
+use Rattle.refusal.specs.declared.Refusal.{Refusal}
+use Rattle.refusal.specs.declared.Refusal.TheVariants as Refusal
 
-refused≢at : {n s k : ℕ} → R.Refused n ≡ R.At s k → ⊥
+refused≢at : {n : Refusal} {x : ℕ × ℕ} → Err n ≡ Ok x → ⊥
 refused≢at q = let z : ◌≡◌ {A = ℕ} 0 1 = cc in omega arith
 
 -- what an answer within a present slot is
@@ -26,10 +28,11 @@ pub record Given (start size offset len s k : ℕ) : Type 0 where
   pub place : s ≡ start + offset
   pub count : k ≡ len
 
-pub given_in : (start size offset len s k : ℕ) → range_in (At start size) offset len ≡ R.At s k → Given start size offset len s k
+pub given_in : (start size offset len s k : ℕ) → range_in (At start size) offset len ≡ Ok (s, k) → Given start size offset len s k
 given_in start size offset len s k h =
-    let t = by_then (leb (offset + len) size) (R.At (start + offset) len) (R.Refused 13) refused≢at h in
-    record { fits = leb-true _ _ t.0; place = cc; count = cc }
+    let t = by_then (leb (offset + len) size) (Ok (start + offset, len)) (Err Refusal.ImageEnd) refused≢at h in
+    let e : ◌≡◌ {A = ℕ × ℕ} (s, k) (start + offset, len) = cc in
+    record { fits = leb-true _ _ t.0; place = ap (λ (r : ℕ × ℕ). r.0) e; count = ap (λ (r : ℕ × ℕ). r.1) e }
 
 -- of a well-formed set the range is that of its bytes
 pub range_formed : (set : List ℕ) (id offset len : ℕ) → well_formed true set ≡ true → range_of set id offset len ≡ range_unjudged set id offset len
@@ -37,16 +40,16 @@ unfolding range_of
 range_formed set id offset len h = simp h
 
 -- any other is refused
-pub range_malformed : (set : List ℕ) (id offset len : ℕ) → well_formed true set ≡ false → range_of set id offset len ≡ R.Refused 1
+pub range_malformed : (set : List ℕ) (id offset len : ℕ) → well_formed true set ≡ false → range_of set id offset len ≡ Err Refusal.ImageSet
 unfolding range_of
 range_malformed set id offset len h = simp h
 
 -- a set that is answered with a range is well-formed, and the range is that of its bytes
-range_in_lem : (set : List ℕ) (id offset len s k : ℕ) → range_of set id offset len ≡ R.At s k → range_unjudged set id offset len ≡ R.At s k
+range_in_lem : (set : List ℕ) (id offset len s k : ℕ) → range_of set id offset len ≡ Ok (s, k) → range_unjudged set id offset len ≡ Ok (s, k)
 unfolding range_of
-range_in_lem set id offset len s k h = (by_then (well_formed true set) _ (R.Refused 1) refused≢at h).1
+range_in_lem set id offset len s k h = (by_then (well_formed true set) _ (Err Refusal.ImageSet) refused≢at h).1
 
-within : (set : List ℕ) (i offset len s k : ℕ) (x : Slot) → slot_of set i ≡ x → range_in x offset len ≡ R.At s k → (s + k ≤ length set) × (k ≡ len)
+within : (set : List ℕ) (i offset len s k : ℕ) (x : Slot) → slot_of set i ≡ x → range_in x offset len ≡ Ok (s, k) → (s + k ≤ length set) × (k ≡ len)
 within set i offset len s k (At start size) e h =
     let g = given_in start size offset len s k h in
     (omega (arith, slot_within set i start size e), g.count)
@@ -54,13 +57,13 @@ within set i offset len s k Absent e h = absurd (refused≢at h)
 within set i offset len s k Missing e h = absurd (refused≢at h)
 
 -- an answer lies within the set, judged or not, and is as long as was asked
-pub unjudged_within : (set : List ℕ) (id offset len s k : ℕ) → range_unjudged set id offset len ≡ R.At s k → (s + k ≤ length set) × (k ≡ len)
+pub unjudged_within : (set : List ℕ) (id offset len s k : ℕ) → range_unjudged set id offset len ≡ Ok (s, k) → (s + k ≤ length set) × (k ≡ len)
 unjudged_within set id offset len s k = within set (slot_for (count_of set) id) offset len s k (slot_of set (slot_for (count_of set) id)) refl
 
-pub range_within : (set : List ℕ) (id offset len s k : ℕ) → range_of set id offset len ≡ R.At s k → (s + k ≤ length set) × (k ≡ len)
+pub range_within : (set : List ℕ) (id offset len s k : ℕ) → range_of set id offset len ≡ Ok (s, k) → (s + k ≤ length set) × (k ≡ len)
 range_within set id offset len s k h = unjudged_within set id offset len s k (range_in_lem set id offset len s k h)
 
-bytes : (set : List ℕ) (offset len s k : ℕ) (x : Slot) → range_in x offset len ≡ R.At s k
+bytes : (set : List ℕ) (offset len s k : ℕ) (x : Slot) → range_in x offset len ≡ Ok (s, k)
     → take k (drop s set) ≡ take len (drop offset (bytes_in (content_at set x)))
 bytes set offset len s k (At start size) h =
     let g = given_in start size offset len s k h in
@@ -69,6 +72,6 @@ bytes set offset len s k Absent h = absurd (refused≢at h)
 bytes set offset len s k Missing h = absurd (refused≢at h)
 
 -- an answer's bytes are those of the slot's image from the offset on
-pub range_bytes_lem : (set : List ℕ) (id offset len s k : ℕ) → range_of set id offset len ≡ R.At s k
+pub range_bytes_lem : (set : List ℕ) (id offset len s k : ℕ) → range_of set id offset len ≡ Ok (s, k)
     → take k (drop s set) ≡ take len (drop offset (bytes_in (content_of set (slot_for (count_of set) id))))
 range_bytes_lem set id offset len s k h = bytes set offset len s k (slot_of set (slot_for (count_of set) id)) (range_in_lem set id offset len s k h)

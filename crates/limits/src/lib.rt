@@ -37,7 +37,7 @@ pub fn held_limit(window: [u8; 48], held: usize) -> bool
         return false;
     }
     let size = length_in(window);
-    let LengthCheck::Good = sahara_read_packet_length(size) else {
+    let Ok(()) = sahara_read_packet_length(size) else {
         return true;
     };
     size as usize <= held

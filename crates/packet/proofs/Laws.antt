@@ -1,6 +1,6 @@
 -- Laws of decoding: what the proofs of the functions share; it looks at no more than the first 48 bytes; what it accepts has at least the kind's
 -- least body. The last two go by the kind. Assumes nothing.
-use mathlib.Core.Path.{◌≡◌, refl, sym, ap, ◌∙◌}
+use mathlib.Core.Path.{◌≡◌, refl, sym, ◌∙◌}
 use mathlib.Core.List.{List}
 use mathlib.Core.Logic.{⊎_elim}
 use Prim.Native.Nat.{ℕ, ◌+◌, ◌≤◌, ◌<◌}
@@ -16,10 +16,6 @@ use Rattle.command.specs.declared.SaharaCmd.{SaharaCmd}
 use Rattle.command.specs.declared.SaharaCmd.TheVariants as K
 use Rattle.command.specs.declared.SaharaMode.{SaharaMode}
 use Rattle.command.specs.declared.SaharaCmdModeCmd.{SaharaCmdModeCmd}
-use Rattle.command.specs.declared.ModeOf.{ModeOf}
-use Rattle.command.specs.declared.ModeOf.TheVariants as MO
-use Rattle.command.specs.declared.CommandOf.{CommandOf}
-use Rattle.command.specs.declared.CommandOf.TheVariants as CO
 use Rattle.command.specs.declared.Class.{Class}
 use Rattle.command.specs.declared.Class.TheVariants as C
 use Rattle.packet.specs.Packet.{
@@ -39,43 +35,21 @@ use Rattle.packet.specs.Packet.{
   kind_in,
 }
 use Rattle.packet.specs.declared.HelloResp.{HelloResp}
-use Rattle.packet.specs.declared.SaharaPacketBody.TheVariants as B
-use Rattle.packet.specs.declared.Body.{Body}
-use Rattle.packet.specs.declared.Body.TheVariants as Y
-use Rattle.packet.specs.declared.Decoded.{Decoded}
-use Rattle.packet.specs.declared.Decoded.TheVariants as D
 use Rattle.packet.specs.declared.SaharaPacket.{SaharaPacket}
-
--- what `tells` said of a number that was read, a', is what it says of the number that stands there
-pub read_as : {A B : Type 0} (tells : ℕ → A) (of : A → B) {n m : ℕ} {a a' : A} → n ≡ m → a ≡ tells n → a ≡ a' → of a' ≡ of (tells m)
-read_as tells of e t h = ap of (sym h ∙ t ∙ ap tells e)
-
--- either hello's body, of its words: the third is the greatest length of a Hello
-abbrev pub as_req : HelloResp → Body
-as_req h = Y.Is (B.HelloReq (record { ver = h.ver; compatible = h.compatible; max_len = h.status; mode = h.mode; unk = h.unk }))
-
-abbrev pub as_resp : HelloResp → Body
-as_resp h = Y.Is (B.HelloResp h)
+use Rattle.std.specs.Prelude.{Result, Ok, Err}
+use Rattle.refusal.specs.declared.Refusal.{Refusal}
+use Rattle.refusal.specs.declared.Refusal.TheVariants as Refusal
+use Rattle.packet.specs.declared.SaharaPacketBody.{SaharaPacketBody}
 
 -- a body that is short is malformed; one that is not is read
 module _ (k : SaharaCmd) (p : List ℕ) where
-  pub short_body : length p < 8 + least_body k → kind_of p k ≡ Y.Malformed
+  pub short_body : length p < 8 + least_body k → kind_of p k ≡ (Err Refusal.Body)
   unfolding kind_of
   short_body h = simp (lt-ltb _ _ h)
 
   pub whole_body : 8 + least_body k ≤ length p → kind_of p k ≡ body_of p k
   unfolding kind_of
   whole_body h = simp (le-ltb _ _ h)
-
--- decoding below 8 bytes, and from 8 bytes on
-module _ (p : List ℕ) where
-  pub decode_short : length p < 8 → D.Refused 9 ≡ decode_of p
-  unfolding decode_of
-  decode_short l = simp (lt-ltb _ _ l)
-
-  pub decode_whole : 8 ≤ length p → {d : Decoded} → d ≡ by_class p (class_of (command_field p)) → d ≡ decode_of p
-  unfolding decode_of
-  decode_whole l q = simp (le-ltb _ _ l) q
 
 -- a length below m is the same test after the first n bytes are taken
 short_window : (n m : ℕ) (p : List ℕ) → m ≤ n → ltb (length (take n p)) m ≡ ltb (length p) m
@@ -132,21 +106,21 @@ module _ (p : List ℕ) where
         field_window 4 44 p (lit≤ tt),
       )
 
-  hello_window : (m : ModeOf) → hello_of (take 48 p) m ≡ hello_of p m
-  hello_window (MO.Is m) = rw (w0, w1, w2, unk_window) refl
-  hello_window MO.Bad = refl
+  hello_window : (m : Result SaharaMode Refusal) → hello_of (take 48 p) m ≡ hello_of p m
+  hello_window (Ok m) = rw (w0, w1, w2, unk_window) refl
+  hello_window (Err why) = refl
 
-  hello_resp_window : (m : ModeOf) → hello_resp_of (take 48 p) m ≡ hello_resp_of p m
-  hello_resp_window (MO.Is m) = rw (w0, w1, w2, unk_window) refl
-  hello_resp_window MO.Bad = refl
+  hello_resp_window : (m : Result SaharaMode Refusal) → hello_resp_of (take 48 p) m ≡ hello_resp_of p m
+  hello_resp_window (Ok m) = rw (w0, w1, w2, unk_window) refl
+  hello_resp_window (Err why) = refl
 
-  exec_resp_window : (c : CommandOf) → exec_resp_of (take 48 p) c ≡ exec_resp_of p c
-  exec_resp_window (CO.Is c) = rw w1 refl
-  exec_resp_window CO.Bad = refl
+  exec_resp_window : (c : Result SaharaCmdModeCmd Refusal) → exec_resp_of (take 48 p) c ≡ exec_resp_of p c
+  exec_resp_window (Ok c) = rw w1 refl
+  exec_resp_window (Err why) = refl
 
-  exec_data_window : (c : CommandOf) → exec_data_of (take 48 p) c ≡ exec_data_of p c
-  exec_data_window (CO.Is c) = refl
-  exec_data_window CO.Bad = refl
+  exec_data_window : (c : Result SaharaCmdModeCmd Refusal) → exec_data_of (take 48 p) c ≡ exec_data_of p c
+  exec_data_window (Ok c) = refl
+  exec_data_window (Err why) = refl
 
   body_window : (k : SaharaCmd) → body_of (take 48 p) k ≡ body_of p k
   body_window K.Hello = rw (mode_window, hello_window (mode_of (le 4 (drop 20 p)))) refl
@@ -183,21 +157,17 @@ module _ (p : List ℕ) where
 -- ---- what is accepted
 
 -- a body is of its kind
-abbrev kind_or : SaharaCmd → Body → SaharaCmd
-kind_or k (Y.Is b) = kind_in b
-kind_or k Y.Malformed = k
+abbrev kind_or : SaharaCmd → Result SaharaPacketBody Refusal → SaharaCmd
+kind_or k (Ok b) = kind_in b
+kind_or k (Err why) = k
 
-by_mode : (P : ModeOf → Type 0) → ((m : SaharaMode) → P (MO.Is m)) → P MO.Bad → (x : ModeOf) → P x
-by_mode P is bad (MO.Is m) = is m
-by_mode P is bad MO.Bad = bad
-
-by_command : (P : CommandOf → Type 0) → ((c : SaharaCmdModeCmd) → P (CO.Is c)) → P CO.Bad → (x : CommandOf) → P x
-by_command P is bad (CO.Is c) = is c
-by_command P is bad CO.Bad = bad
+by_result : {A : Type 0} (P : Result A Refusal → Type 0) → ((a : A) → P (Ok a)) → ((why : Refusal) → P (Err why)) → (x : Result A Refusal) → P x
+by_result P is bad (Ok a) = is a
+by_result P is bad (Err why) = bad why
 
 body_kind : (p : List ℕ) (k : SaharaCmd) → kind_or k (body_of p k) ≡ k
-body_kind p K.Hello = by_mode (λ m. kind_or K.Hello (hello_of p m) ≡ K.Hello) (λ m. refl) refl (mode_of (word p 3))
-body_kind p K.HelloResp = by_mode (λ m. kind_or K.HelloResp (hello_resp_of p m) ≡ K.HelloResp) (λ m. refl) refl (mode_of (word p 3))
+body_kind p K.Hello = by_result (λ m. kind_or K.Hello (hello_of p m) ≡ K.Hello) (λ m. refl) (λ why. refl) (mode_of (word p 3))
+body_kind p K.HelloResp = by_result (λ m. kind_or K.HelloResp (hello_resp_of p m) ≡ K.HelloResp) (λ m. refl) (λ why. refl) (mode_of (word p 3))
 body_kind p K.ReadData = refl
 body_kind p K.EndOfImage = refl
 body_kind p K.Done = refl
@@ -206,8 +176,8 @@ body_kind p K.ResetResp = refl
 body_kind p K.MemDebug = refl
 body_kind p K.MemRead = refl
 body_kind p K.CommandReady = refl
-body_kind p K.ExecuteResp = by_command (λ c. kind_or K.ExecuteResp (exec_resp_of p c) ≡ K.ExecuteResp) (λ c. refl) refl (command_of (word p 0))
-body_kind p K.ExecuteData = by_command (λ c. kind_or K.ExecuteData (exec_data_of p c) ≡ K.ExecuteData) (λ c. refl) refl (command_of (word p 0))
+body_kind p K.ExecuteResp = by_result (λ c. kind_or K.ExecuteResp (exec_resp_of p c) ≡ K.ExecuteResp) (λ c. refl) (λ why. refl) (command_of (word p 0))
+body_kind p K.ExecuteData = by_result (λ c. kind_or K.ExecuteData (exec_data_of p c) ≡ K.ExecuteData) (λ c. refl) (λ why. refl) (command_of (word p 0))
 body_kind p K.MemDebug64 = refl
 body_kind p K.MemRead64 = refl
 body_kind p K.ReadData64 = refl
@@ -219,31 +189,31 @@ pub record Accepted (p : List ℕ) (q : SaharaPacket) : Type 0 where
   pub len : q.len ≡ length_field p
 
 module _ (p : List ℕ) (q : SaharaPacket) where
-  by_body : (k : SaharaCmd) (b : Body) → kind_or k b ≡ k → packet_with (length_field p) b ≡ D.Is q → (kind_in q.body ≡ k) × (q.len ≡ length_field p)
-  by_body k (Y.Is b) e h =
+  by_body : (k : SaharaCmd) (b : Result SaharaPacketBody Refusal) → kind_or k b ≡ k → packet_with (length_field p) b ≡ Ok q → (kind_in q.body ≡ k) × (q.len ≡ length_field p)
+  by_body k (Ok b) e h =
       let r : record { len = length_field p; body = b } ≡ q = cc in
       rw (← r) (e, refl)
-  by_body k Y.Malformed e h = let z : ◌≡◌ {A = ℕ} 0 1 = cc in absurd (omega arith)
+  by_body k (Err why) e h = let z : ◌≡◌ {A = ℕ} 0 1 = cc in absurd (omega arith)
 
-  never : (why : ℕ) → D.Refused why ≡ D.Is q → ⊥
+  never : (why : Refusal) → Err why ≡ Ok q → ⊥
   never why h = let z : ◌≡◌ {A = ℕ} 0 1 = cc in omega arith
 
-  by_kind : (k : SaharaCmd) → class_of (command_field p) ≡ C.Kind k → packet_with (length_field p) (kind_of p k) ≡ D.Is q → Accepted p q
+  by_kind : (k : SaharaCmd) → class_of (command_field p) ≡ C.Kind k → packet_with (length_field p) (kind_of p k) ≡ Ok q → Accepted p q
   by_kind k c h =
       ⊎_elim
-      (λ (l : length p < 8 + least_body k). absurd (never 9 (rw (short_body k p l) at h)))
+      (λ (l : length p < 8 + least_body k). absurd (never _ (rw (short_body k p l) at h)))
       (λ (l : 8 + least_body k ≤ length p).
       let r = by_body k (body_of p k) (body_kind p k) (rw (whole_body k p l) at h) in
       record { kind = rw r.0 c; least = rw r.0 l; len = r.1 })
       (below_or_not (length p) (8 + least_body k))
 
-  by_class_lem : (c : Class) → class_of (command_field p) ≡ c → by_class p c ≡ D.Is q → Accepted p q
+  by_class_lem : (c : Class) → class_of (command_field p) ≡ c → by_class p c ≡ Ok q → Accepted p q
   by_class_lem (C.Kind k) c h = by_kind k c h
-  by_class_lem C.Xml c h = absurd (never 7 h)
-  by_class_lem C.Unimplemented c h = absurd (never 8 h)
-  by_class_lem C.Unknown c h = absurd (never 6 h)
+  by_class_lem C.Xml c h = absurd (never _ h)
+  by_class_lem C.Unimplemented c h = absurd (never _ h)
+  by_class_lem C.Unknown c h = absurd (never _ h)
 
-  pub accepted : decode_of p ≡ D.Is q → Accepted p q
+  pub accepted : decode_of p ≡ Ok q → Accepted p q
   unfolding decode_of
   accepted h =
-      by_test (ltb (length p) 8) (λ e. absurd (never 9 (rw e at h))) (λ e. by_class_lem (class_of (command_field p)) refl (rw e at h))
+      by_test (ltb (length p) 8) (λ e. absurd (never _ (rw e at h))) (λ e. by_class_lem (class_of (command_field p)) refl (rw e at h))

@@ -2,11 +2,11 @@
 use mathlib.Core.Path.{◌≡◌, refl}
 use mathlib.Core.List.{List}
 use Prim.Native.Nat.{ℕ}
-use lib.Dec.{eqb}
 use lib.ListN.{get_or, drop}
-use Rattle.base.specs.Choice.{pick}
 use Rattle.base.specs.Told.{Told}
 use Rattle.base.proofs.Telling.{apart}
+use Rattle.refusal.specs.Refusal.{refusal_of}
+use Rattle.refusal.proofs.Laws.{refusal_back, accepted_apart}
 use Rattle.command.specs.Command.{mode_of, command_of, kinds, unimplemented, class_of}
 use Rattle.command.specs.declared.SaharaCmd.{SaharaCmd}
 use Rattle.command.specs.declared.SaharaCmd.TheVariants as K
@@ -19,10 +19,9 @@ use Rattle.packet.specs.Packet.{kind_in}
 use Rattle.packet.specs.Told.{unk_from, body_values, decoded_told, length_told}
 use Rattle.packet.specs.declared.SaharaPacketBody.{SaharaPacketBody}
 use Rattle.packet.specs.declared.SaharaPacketBody.TheVariants as B
-use Rattle.packet.specs.declared.Decoded.{Decoded}
-use Rattle.packet.specs.declared.Decoded.TheVariants as D
-use Rattle.packet.specs.declared.LengthCheck.{LengthCheck}
-use Rattle.packet.specs.declared.LengthCheck.TheVariants as L
+use Rattle.std.specs.Prelude.{Result, Ok, Err}
+use Rattle.refusal.specs.declared.Refusal.{Refusal}
+use Rattle.packet.specs.declared.SaharaPacket.{SaharaPacket}
 
 -- the body of a kind with these values
 module _ (vs : List ℕ) where
@@ -76,33 +75,26 @@ body_back (B.ReadMem64Req b) = refl
 body_back (B.ReadData64Req b) = refl
 
 -- a packet of this class with these values, its length field first
-abbrev packet_from : List ℕ → Class → Decoded
-packet_from vs (C.Kind k) = D.Is (record { len = get_or vs 0 0; body = body_from (drop 1 vs) k })
-packet_from vs C.Xml = D.Refused (get_or vs 0 0)
-packet_from vs C.Unimplemented = D.Refused (get_or vs 0 0)
-packet_from vs C.Unknown = D.Refused (get_or vs 0 0)
+abbrev packet_from : List ℕ → Class → Result SaharaPacket Refusal
+packet_from vs (C.Kind k) = Ok (record { len = get_or vs 0 0; body = body_from (drop 1 vs) k })
+packet_from vs C.Xml = Err (refusal_of (get_or vs 0 0))
+packet_from vs C.Unimplemented = Err (refusal_of (get_or vs 0 0))
+packet_from vs C.Unknown = Err (refusal_of (get_or vs 0 0))
 
 -- 0 is no kind's number
 no_kind : class_of 0 ≡ C.Unknown
 unfolding class_of kinds unimplemented
 no_kind = refl
 
-abbrev decoded_from : Told → Decoded
+abbrev decoded_from : Told → Result SaharaPacket Refusal
 decoded_from t = packet_from t.values (class_of t.number)
 
-decoded_back : (x : Decoded) → decoded_from (decoded_told x) ≡ x
-decoded_back (D.Is p) = rw (kind_back (kind_in p.body), body_back p.body) refl
-decoded_back (D.Refused why) = rw no_kind refl
+decoded_back : (x : Result SaharaPacket Refusal) → decoded_from (decoded_told x) ≡ x
+decoded_back (Ok p) = rw (kind_back (kind_in p.body), body_back p.body) refl
+decoded_back (Err why) = rw (no_kind, refusal_back why) refl
 
-pub decoded_apart : (x y : Decoded) → decoded_told x ≡ decoded_told y → x ≡ y
+pub decoded_apart : (x y : Result SaharaPacket Refusal) → decoded_told x ≡ decoded_told y → x ≡ y
 decoded_apart = apart decoded_told decoded_from decoded_back
 
-abbrev length_from : Told → LengthCheck
-length_from t = pick (eqb t.number 0) L.Good (L.Refused (get_or t.values 0 0))
-
-length_back : (x : LengthCheck) → length_from (length_told x) ≡ x
-length_back L.Good = refl
-length_back (L.Refused why) = refl
-
-pub length_apart : (x y : LengthCheck) → length_told x ≡ length_told y → x ≡ y
-length_apart = apart length_told length_from length_back
+pub length_apart : (x y : Result Unit Refusal) → length_told x ≡ length_told y → x ≡ y
+length_apart = accepted_apart

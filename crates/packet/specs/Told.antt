@@ -1,17 +1,16 @@
 -- What decoding tells. Document 01, Records, "Packet": a packet's number is its kind's, "Hello 1 (40), HelloResp 2 (40), .. ReadData64 0x12 (24)"; its
 -- values are its length field and its body's in 01's order, a mode or a command by its number. What is refused tells 0, which is no kind's number, and
 -- the refusal.
-use Rattle.std.specs.Prelude.{ℕ, List, [], ◌∷◌, get_or}
-use Rattle.base.specs.Told.{Told, told, told_go, told_refused}
+use Rattle.std.specs.Prelude.{ℕ, List, [], ◌∷◌, get_or, Result, Ok, Err}
+use Rattle.base.specs.Told.{Told, told}
+use Rattle.refusal.specs.Refusal.{refusal_number, accepted_told}
 use Rattle.command.specs.Command.{mode_number, command_number, kind_number}
 use Rattle.packet.specs.Packet.{kind_in}
 use Rattle.packet.specs.declared.Unk.{Unk}
 use Rattle.packet.specs.declared.SaharaPacketBody.{SaharaPacketBody}
 use Rattle.packet.specs.declared.SaharaPacketBody.TheVariants as B
-use Rattle.packet.specs.declared.Decoded.{Decoded}
-use Rattle.packet.specs.declared.Decoded.TheVariants as D
-use Rattle.packet.specs.declared.LengthCheck.{LengthCheck}
-use Rattle.packet.specs.declared.LengthCheck.TheVariants as L
+use Rattle.refusal.specs.declared.Refusal.{Refusal}
+use Rattle.packet.specs.declared.SaharaPacket.{SaharaPacket}
 
 -- "six unused words"
 abbrev pub unk_values : Unk → List ℕ
@@ -42,11 +41,10 @@ body_values (B.Debug64Req b) = b.addr ∷ b.len ∷ []
 body_values (B.ReadMem64Req b) = b.addr ∷ b.len ∷ []
 body_values (B.ReadData64Req b) = b.image ∷ b.offset ∷ b.len ∷ []
 
-abbrev pub decoded_told : Decoded → Told
-decoded_told (D.Is p) = told (kind_number (kind_in p.body)) (p.len ∷ body_values p.body)
-decoded_told (D.Refused why) = told 0 (why ∷ [])
+abbrev pub decoded_told : Result SaharaPacket Refusal → Told
+decoded_told (Ok p) = told (kind_number (kind_in p.body)) (p.len ∷ body_values p.body)
+decoded_told (Err why) = told 0 (refusal_number why ∷ [])
 
 -- what the length rule tells
-abbrev pub length_told : LengthCheck → Told
-length_told L.Good = told_go
-length_told (L.Refused why) = told_refused why
+abbrev pub length_told : Result Unit Refusal → Told
+length_told = accepted_told

@@ -5,18 +5,15 @@ ghost use Rattle.std.specs.Prelude.{◌≡◌, ◌+◌, ◌≤◌, length, drop}
 ghost use Rattle.command.specs.Command.{least_body};
 ghost use Rattle.command.specs.declared.SaharaCmd.TheVariants as K;
 ghost use Rattle.field.specs.Field.{le};
-ghost use Rattle.packet.specs.declared.Body.TheVariants as Y;
 ghost use Rattle.packet.specs.declared.SaharaPacketBody.TheVariants as B;
 ghost use Rattle.base.specs.Told.{Tells};
 ghost use Rattle.packet.specs.Told.{decoded_told, length_told};
-ghost use Rattle.packet.specs.Packet.{unk_of, hello_words, address_length, body_of, kind_of, packet_with, decode_of, length_checked};
+ghost use Rattle.packet.specs.Packet.{unk_of, hello_words, address_length, body_of, kind_of, decode_of, length_checked};
 
-use command::{
-    Class, CommandOf, ModeOf, SaharaCmd, SaharaCmdModeCmd, SaharaMode, class_of, command_of,
-    mode_of,
-};
+use command::{Class, SaharaCmd, SaharaCmdModeCmd, SaharaMode};
 use field::{Field4, Field8};
 use reader::{long_at, word_at};
+use refusal::Refusal;
 
 // The six words of a hello that nobody uses.
 #[derive(Clone, Copy)]
@@ -133,25 +130,6 @@ pub struct SaharaPacket {
     pub body: SaharaPacketBody,
 }
 
-#[derive(Clone, Copy)]
-pub enum Decoded {
-    Is(SaharaPacket),
-    Refused(u8),
-}
-
-#[derive(Clone, Copy)]
-pub enum LengthCheck {
-    Good,
-    Refused(u8),
-}
-
-// A body, or what is no body of its kind.
-#[derive(Clone, Copy)]
-pub enum Body {
-    Is(SaharaPacketBody),
-    Malformed,
-}
-
 // The field of 4 bytes at an offset, which lies within the bytes; and of 8.
 fn word(p: &[u8], at: usize) -> u32
     requires { at + 4 ≤ length p.now }
@@ -203,63 +181,49 @@ fn hello_words(p: &[u8], mode: SaharaMode) -> HelloResp
     }
 }
 
-fn hello_req_body(p: &[u8]) -> Body
+fn hello_req_body(p: &[u8]) -> Result<SaharaPacketBody, Refusal>
     requires { 48 ≤ length p.now }
     ensures { result ≡ body_of p.now K.Hello }
 {
-    match mode_of(word(p, 20)) {
-        ModeOf::Is(m) => {
-            let h = hello_words(p, m);
-            let mode = h.mode;
-            let unk = h.unk;
-            Body::Is(SaharaPacketBody::HelloReq(HelloReq {
-                ver: h.ver,
-                compatible: h.compatible,
-                max_len: h.status,
-                mode: mode,
-                unk: unk,
-            }))
-        }
-        ModeOf::Bad => Body::Malformed,
-    }
+    let mode = SaharaMode::try_from(word(p, 20))?;
+    let h = hello_words(p, mode);
+    Ok(SaharaPacketBody::HelloReq(HelloReq {
+        ver: h.ver,
+        compatible: h.compatible,
+        max_len: h.status,
+        mode: h.mode,
+        unk: h.unk,
+    }))
 }
 
-fn hello_resp_body(p: &[u8]) -> Body
+fn hello_resp_body(p: &[u8]) -> Result<SaharaPacketBody, Refusal>
     requires { 48 ≤ length p.now }
     ensures { result ≡ body_of p.now K.HelloResp }
 {
-    match mode_of(word(p, 20)) {
-        ModeOf::Is(m) => Body::Is(SaharaPacketBody::HelloResp(hello_words(p, m))),
-        ModeOf::Bad => Body::Malformed,
-    }
+    let mode = SaharaMode::try_from(word(p, 20))?;
+    Ok(SaharaPacketBody::HelloResp(hello_words(p, mode)))
 }
 
-fn exec_resp_body(p: &[u8]) -> Body
+fn exec_resp_body(p: &[u8]) -> Result<SaharaPacketBody, Refusal>
     requires { 16 ≤ length p.now }
     ensures { result ≡ body_of p.now K.ExecuteResp }
 {
-    match command_of(word(p, 8)) {
-        CommandOf::Is(c) => Body::Is(SaharaPacketBody::ExecResp(ExecResp {
-            command: c,
-            len: word(p, 12),
-        })),
-        CommandOf::Bad => Body::Malformed,
-    }
+    let command = SaharaCmdModeCmd::try_from(word(p, 8))?;
+    let len = word(p, 12);
+    Ok(SaharaPacketBody::ExecResp(ExecResp { command, len }))
 }
 
-fn exec_data_body(p: &[u8]) -> Body
+fn exec_data_body(p: &[u8]) -> Result<SaharaPacketBody, Refusal>
     requires { 12 ≤ length p.now }
     ensures { result ≡ body_of p.now K.ExecuteData }
 {
-    match command_of(word(p, 8)) {
-        CommandOf::Is(c) => Body::Is(SaharaPacketBody::ExecData(ExecData { command: c })),
-        CommandOf::Bad => Body::Malformed,
-    }
+    let command = SaharaCmdModeCmd::try_from(word(p, 8))?;
+    Ok(SaharaPacketBody::ExecData(ExecData { command }))
 }
 
 fn read_req(p: &[u8]) -> ReadReq
     requires { 20 ≤ length p.now }
-    ensures { Y.Is (B.ReadReq result) ≡ body_of p.now K.ReadData }
+    ensures { Ok (B.ReadReq result) ≡ body_of p.now K.ReadData }
 {
     ReadReq {
         image: word(p, 8),
@@ -281,7 +245,7 @@ fn mem64(p: &[u8]) -> Debug64Req
 
 fn read_data64(p: &[u8]) -> ReadData64Req
     requires { 32 ≤ length p.now }
-    ensures { Y.Is (B.ReadData64Req result) ≡ body_of p.now K.ReadData64 }
+    ensures { Ok (B.ReadData64Req result) ≡ body_of p.now K.ReadData64 }
 {
     ReadData64Req {
         image: long(p, 8),
@@ -314,40 +278,40 @@ fn least_body(kind: SaharaCmd) -> usize
 }
 
 // The body of a packet by its kind, whose least bytes are there.
-fn body_of(p: &[u8], kind: SaharaCmd) -> Body
+fn body_of(p: &[u8], kind: SaharaCmd) -> Result<SaharaPacketBody, Refusal>
     requires { 8 + least_body kind ≤ length p.now }
     ensures { result ≡ body_of p.now kind }
 {
     match kind {
         SaharaCmd::Hello => hello_req_body(p),
         SaharaCmd::HelloResp => hello_resp_body(p),
-        SaharaCmd::ReadData => Body::Is(SaharaPacketBody::ReadReq(read_req(p))),
-        SaharaCmd::EndOfImage => Body::Is(SaharaPacketBody::Eoi(Eoi {
+        SaharaCmd::ReadData => Ok(SaharaPacketBody::ReadReq(read_req(p))),
+        SaharaCmd::EndOfImage => Ok(SaharaPacketBody::Eoi(Eoi {
             image: word(p, 8),
             status: word(p, 12),
         })),
-        SaharaCmd::Done => Body::Is(SaharaPacketBody::DoneReq),
-        SaharaCmd::DoneResp => Body::Is(SaharaPacketBody::DoneResp(DoneResp {
+        SaharaCmd::Done => Ok(SaharaPacketBody::DoneReq),
+        SaharaCmd::DoneResp => Ok(SaharaPacketBody::DoneResp(DoneResp {
             status: word(p, 8),
         })),
-        SaharaCmd::ResetResp => Body::Is(SaharaPacketBody::ResetResp),
-        SaharaCmd::CommandReady => Body::Is(SaharaPacketBody::CommandReady),
+        SaharaCmd::ResetResp => Ok(SaharaPacketBody::ResetResp),
+        SaharaCmd::CommandReady => Ok(SaharaPacketBody::CommandReady),
         SaharaCmd::ExecuteResp => exec_resp_body(p),
         SaharaCmd::ExecuteData => exec_data_body(p),
-        SaharaCmd::MemDebug64 => Body::Is(SaharaPacketBody::Debug64Req(mem64(p))),
+        SaharaCmd::MemDebug64 => Ok(SaharaPacketBody::Debug64Req(mem64(p))),
         SaharaCmd::MemRead64 => {
             let m = mem64(p);
-            Body::Is(SaharaPacketBody::ReadMem64Req(ReadMem64Req {
+            Ok(SaharaPacketBody::ReadMem64Req(ReadMem64Req {
                 addr: m.addr,
                 len: m.len,
             }))
         }
-        SaharaCmd::ReadData64 => Body::Is(SaharaPacketBody::ReadData64Req(read_data64(p))),
-        SaharaCmd::MemDebug => Body::Is(SaharaPacketBody::DebugReq(DebugReq {
+        SaharaCmd::ReadData64 => Ok(SaharaPacketBody::ReadData64Req(read_data64(p))),
+        SaharaCmd::MemDebug => Ok(SaharaPacketBody::DebugReq(DebugReq {
             addr: word(p, 8),
             len: word(p, 12),
         })),
-        SaharaCmd::MemRead => Body::Is(SaharaPacketBody::ReadMemReq(ReadMemReq {
+        SaharaCmd::MemRead => Ok(SaharaPacketBody::ReadMemReq(ReadMemReq {
             addr: word(p, 8),
             len: word(p, 12),
         })),
@@ -355,48 +319,44 @@ fn body_of(p: &[u8], kind: SaharaCmd) -> Body
 }
 
 // The same, malformed where it is short.
-fn kind_of(p: &[u8], kind: SaharaCmd) -> Body
+fn kind_of(p: &[u8], kind: SaharaCmd) -> Result<SaharaPacketBody, Refusal>
     ensures { result ≡ kind_of p.now kind }
 {
     if p.len() < 8 + least_body(kind) {
-        return Body::Malformed;
+        return Err(Refusal::Body);
     }
     body_of(p, kind)
 }
 
-fn packet_with(len: u32, body: Body) -> Decoded
-    ensures { result ≡ packet_with len body }
-{
-    match body {
-        Body::Is(b) => Decoded::Is(SaharaPacket { len: len, body: b }),
-        Body::Malformed => Decoded::Refused(9),
-    }
-}
-
 // Decodes a packet from any bytes.
-pub fn sahara_parse_packet(p: &[u8]) -> Decoded
+#[tactic(auto, unfolding(crate::specs::Packet::decode_of))]
+pub fn sahara_parse_packet(p: &[u8]) -> Result<SaharaPacket, Refusal>
     ensures { Tells decoded_told result (decode_of p.now) }
 {
     if p.len() < 8 {
-        return Decoded::Refused(9);
+        return Err(Refusal::Body);
     }
-    match class_of(word(p, 0)) {
-        Class::Kind(k) => packet_with(word(p, 4), kind_of(p, k)),
-        Class::Xml => Decoded::Refused(7),
-        Class::Unimplemented => Decoded::Refused(8),
-        Class::Unknown => Decoded::Refused(6),
+    match Class::from(word(p, 0)) {
+        Class::Kind(kind) => {
+            let body = kind_of(p, kind)?;
+            let len = word(p, 4);
+            Ok(SaharaPacket { len, body })
+        }
+        Class::Xml => Err(Refusal::Xml),
+        Class::Unimplemented => Err(Refusal::NotImplemented),
+        Class::Unknown => Err(Refusal::Unknown),
     }
 }
 
 // The length rule of `sahara_read_packet`.
-pub fn sahara_read_packet_length(len: u32) -> LengthCheck
+pub fn sahara_read_packet_length(len: u32) -> Result<(), Refusal>
     ensures { Tells length_told result (length_checked len) }
 {
     if len < 8 {
-        return LengthCheck::Refused(5);
+        return Err(Refusal::PacketLength);
     }
     if 4096 < len {
-        return LengthCheck::Refused(5);
+        return Err(Refusal::PacketLength);
     }
-    LengthCheck::Good
+    Ok(())
 }

@@ -68,12 +68,12 @@ fn sent(s: Session, taken: usize, q: Request, out: &mut [u8]) -> Stepped
     ensures { (result ≡ gives s taken (Answer.Send (size_of q))) × (out.new ≡ front q out.old) }
 {
     match build(out, q) {
-        Built::Send(k) => Stepped {
+        Ok(k) => Stepped {
             session: s,
             taken: taken,
             answer: Answer::Send(k),
         },
-        Built::Refused(why) => Stepped {
+        Err(why) => Stepped {
             session: s,
             taken: taken,
             answer: Answer::Refused(why),
@@ -155,8 +155,8 @@ fn body(
     ensures { outcome result table.now reply.now out.new
         ≡ sized_of s held delivery.now size set.now table.now reply.now out.old }
 {
-    let LengthCheck::Good = sahara_read_packet_length(size) else {
-        return moved(s, Phase::Ended(0), rest(8, held), Answer::Refused(5));
+    let Ok(()) = sahara_read_packet_length(size) else {
+        return moved(s, Phase::Ended(0), rest(8, held), Answer::Refused(Refusal::PacketLength));
     };
     let left = rest(size as usize, held);
     let n = least(left, delivery.len());

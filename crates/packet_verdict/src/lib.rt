@@ -52,11 +52,11 @@ fn on_body(
         ),
         SaharaPacketBody::Debug64Req(b) => on_debug(tsize, Width::Bits64, len, 24, b.addr, b.len),
         SaharaPacketBody::ReadData64Req(b) => on_read(set, len, 32, b.image, b.offset, b.len),
-        SaharaPacketBody::HelloResp(_) => Verdict::Refused(10),
-        SaharaPacketBody::DoneReq => Verdict::Refused(10),
-        SaharaPacketBody::ExecData(_) => Verdict::Refused(10),
-        SaharaPacketBody::ReadMemReq(_) => Verdict::Refused(10),
-        SaharaPacketBody::ReadMem64Req(_) => Verdict::Refused(10),
+        SaharaPacketBody::HelloResp(_) => Verdict::Refused(Refusal::HostPacket),
+        SaharaPacketBody::DoneReq => Verdict::Refused(Refusal::HostPacket),
+        SaharaPacketBody::ExecData(_) => Verdict::Refused(Refusal::HostPacket),
+        SaharaPacketBody::ReadMemReq(_) => Verdict::Refused(Refusal::HostPacket),
+        SaharaPacketBody::ReadMem64Req(_) => Verdict::Refused(Refusal::HostPacket),
     }
 }
 
@@ -65,10 +65,10 @@ pub fn judge(opening: Opening, set: &[u8], tsize: usize, rsize: usize, p: &[u8])
     ensures { Tells verdict_told result (verdict_of opening set.now tsize rsize p.now) }
 {
     match sahara_parse_packet(p) {
-        Decoded::Is(q) => {
+        Ok(q) => {
             let body = q.body;
             on_body(opening, set, tsize, rsize, q.len, body)
         }
-        Decoded::Refused(why) => Verdict::Refused(why),
+        Err(why) => Verdict::Refused(why),
     }
 }

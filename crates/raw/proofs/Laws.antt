@@ -15,8 +15,6 @@ use Rattle.command.specs.declared.SaharaMode.{SaharaMode}
 use Rattle.command.proofs.Laws.{mode_back, command_back, by_four}
 use Rattle.verdict.specs.declared.QdlBackend.{QdlBackend}
 use Rattle.verdict.specs.declared.QdlBackend.TheVariants as U
-use Rattle.verdict.specs.declared.ExecCommand.{ExecCommand}
-use Rattle.verdict.specs.declared.ExecCommand.TheVariants as X
 use Rattle.verdict.specs.declared.Opening.{Opening}
 use Rattle.session.specs.declared.Phase.{Phase}
 use Rattle.session.specs.declared.Phase.TheVariants as P
@@ -53,13 +51,15 @@ use Rattle.raw.specs.Raw.{
 }
 use Rattle.raw.specs.declared.Counts.{Counts}
 use Rattle.raw.specs.declared.RawSession.{RawSession}
+use Rattle.std.specs.Prelude.{Option, Some, None}
+use Rattle.command.specs.declared.SaharaCmdModeCmd.{SaharaCmdModeCmd}
 
 -- ---- a session's numbers are read back as it
 
-exec_back : (c : ExecCommand) → exec_in (command_of (exec_number c)) ≡ c
+exec_back : (c : Option SaharaCmdModeCmd) → exec_in (command_of (exec_number c)) ≡ c
 unfolding command_of
-exec_back (X.Is c) = ap exec_in (command_back c)
-exec_back X.None = refl
+exec_back (Some c) = ap exec_in (command_back c)
+exec_back None = refl
 
 backend_back : (b : QdlBackend) → backend_of (backend_number b) ≡ b
 backend_back U.Serial = refl
@@ -95,10 +95,10 @@ session_back s = rw (opening_back s.opening, width_back s.width, phase_back s s.
 mode_is_lem : (m : SaharaMode) → is_mode (mode_number m) ≡ true
 mode_is_lem m = rw (mode_back m) refl
 
-exec_is : (c : ExecCommand) → is_exec (exec_number c) ≡ true
+exec_is : (c : Option SaharaCmdModeCmd) → is_exec (exec_number c) ≡ true
 unfolding command_of
-exec_is (X.Is c) = rw (command_back c) refl
-exec_is X.None = refl
+exec_is (Some c) = rw (command_back c) refl
+exec_is None = refl
 
 backend_is : (b : QdlBackend) → ltb (backend_number b) 2 ≡ true
 backend_is U.Serial = refl

@@ -1,7 +1,7 @@
 -- A session, and what a step gives, as plain numbers, as they cross to C and Rust. Document 01, "Session": what it is opened with, the phases and their
 -- counts, "go .. refused". Three laws stand in proofs/Laws: a session's numbers are read back as it, they are a session's, and numbers that are a
 -- session's are those of the session that they are read as.
-use Rattle.std.specs.Prelude.{ℕ, Bool, true, false, ltb, eqb, get_or, replicate}
+use Rattle.std.specs.Prelude.{ℕ, Bool, true, false, ltb, eqb, get_or, replicate, Option, Some, None}
 use Rattle.base.specs.Choice.{pick}
 use Rattle.field.specs.declared.Width.{Width}
 use Rattle.field.specs.declared.Width.TheVariants as WI
@@ -14,8 +14,6 @@ use Rattle.command.specs.declared.CommandOf.{CommandOf}
 use Rattle.command.specs.declared.CommandOf.TheVariants as CO
 use Rattle.verdict.specs.declared.QdlBackend.{QdlBackend}
 use Rattle.verdict.specs.declared.QdlBackend.TheVariants as U
-use Rattle.verdict.specs.declared.ExecCommand.{ExecCommand}
-use Rattle.verdict.specs.declared.ExecCommand.TheVariants as X
 use Rattle.verdict.specs.declared.Opening.{Opening}
 use Rattle.session.specs.declared.Filling.{Filling}
 use Rattle.session.specs.declared.Region.{Region}
@@ -32,6 +30,7 @@ use Rattle.raw.specs.declared.RawSession.{RawSession}
 use Rattle.raw.specs.declared.RawStepped.{RawStepped}
 use Rattle.raw.specs.declared.RawPlaced.{RawPlaced}
 use Rattle.raw.specs.declared.RawTold.{RawTold}
+use Rattle.command.specs.declared.SaharaCmdModeCmd.{SaharaCmdModeCmd}
 
 -- ---- "Opened with mode, command or none, backend"
 
@@ -40,18 +39,18 @@ backend_number U.Serial = 0
 backend_number U.Usb = 1
 
 -- none is 2^32 - 1
-abbrev pub exec_number : ExecCommand → ℕ
-exec_number (X.Is c) = command_number c
-exec_number X.None = 0xFFFFFFFF
+abbrev pub exec_number : Option SaharaCmdModeCmd → ℕ
+exec_number (Some c) = command_number c
+exec_number None = 0xFFFFFFFF
 
 -- what a number names; one that names nothing is read as mode 0, as no command, as serial
 abbrev pub mode_in : ModeOf → SaharaMode
 mode_in (MO.Is m) = m
 mode_in MO.Bad = M.WaitingForImage
 
-abbrev pub exec_in : CommandOf → ExecCommand
-exec_in (CO.Is c) = X.Is c
-exec_in CO.Bad = X.None
+abbrev pub exec_in : CommandOf → Option SaharaCmdModeCmd
+exec_in (CO.Is c) = Some c
+exec_in CO.Bad = None
 
 abbrev pub backend_of : ℕ → QdlBackend
 backend_of n = pick (eqb n 1) U.Usb U.Serial

@@ -115,12 +115,12 @@ pub fn backend_number(backend: QdlBackend) -> u32
     }
 }
 
-pub fn exec_number(command: ExecCommand) -> u32
+pub fn exec_number(command: Option<SaharaCmdModeCmd>) -> u32
     ensures { result ≡ exec_number command }
 {
     match command {
-        ExecCommand::Is(c) => command_number(c),
-        ExecCommand::None => 0xFFFFFFFF,
+        Some(c) => u32::from(c),
+        None => 0xFFFFFFFF,
     }
 }
 
@@ -128,17 +128,17 @@ fn mode_in(m: ModeOf) -> SaharaMode
     ensures { result ≡ mode_in m }
 {
     match m {
-        ModeOf::Is(mode) => mode,
-        ModeOf::Bad => SaharaMode::WaitingForImage,
+        Ok(mode) => mode,
+        Err(_) => SaharaMode::WaitingForImage,
     }
 }
 
-fn exec_in(c: CommandOf) -> ExecCommand
+fn exec_in(c: CommandOf) -> Option<SaharaCmdModeCmd>
     ensures { result ≡ exec_in c }
 {
     match c {
-        CommandOf::Is(command) => ExecCommand::Is(command),
-        CommandOf::Bad => ExecCommand::None,
+        Ok(command) => Some(command),
+        Err(_) => None,
     }
 }
 
@@ -155,8 +155,8 @@ fn backend_of(n: u32) -> QdlBackend
 pub fn opening_of(mode: u32, command: u32, backend: u32) -> Opening
     ensures { result ≡ opening_of mode command backend }
 {
-    let m = mode_in(mode_of(mode));
-    let c = exec_in(command_of(command));
+    let m = mode_in(SaharaMode::try_from(mode));
+    let c = exec_in(SaharaCmdModeCmd::try_from(command));
     let b = backend_of(backend);
     Opening {
         mode: m,
@@ -168,18 +168,18 @@ pub fn opening_of(mode: u32, command: u32, backend: u32) -> Opening
 fn is_mode(mode: u32) -> bool
     ensures { result ≡ is_mode mode }
 {
-    match mode_of(mode) {
-        ModeOf::Is(_) => true,
-        ModeOf::Bad => false,
+    match SaharaMode::try_from(mode) {
+        Ok(_) => true,
+        Err(_) => false,
     }
 }
 
 fn is_exec(command: u32) -> bool
     ensures { result ≡ is_exec command }
 {
-    match command_of(command) {
-        CommandOf::Is(_) => true,
-        CommandOf::Bad => command == 0xFFFFFFFF,
+    match SaharaCmdModeCmd::try_from(command) {
+        Ok(_) => true,
+        Err(_) => command == 0xFFFFFFFF,
     }
 }
 
@@ -421,7 +421,7 @@ pub fn raw_of(s: Session) -> RawSession
     let p = s.phase;
     let k = counts_of(p);
     RawSession {
-        mode: mode_number(mode),
+        mode: u32::from(mode),
         command: exec_number(command),
         backend: backend_number(backend),
         phase: k.phase,
@@ -475,7 +475,7 @@ pub fn raw_stepped(s: Stepped) -> RawStepped
 }
 
 // Refused, the numbers as they were.
-pub fn refused(r: RawSession, why: u8) -> RawStepped
+pub fn refused(r: RawSession, why: Refusal) -> RawStepped
     ensures { result ≡ refused_raw r why }
 {
     let t = told(0, Answer::Refused(why));

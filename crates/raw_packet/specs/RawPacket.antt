@@ -1,6 +1,6 @@
 -- A decoded packet as plain numbers, as it crosses to C and Rust: its kind's number, its length field, the mode or the command that it names, the other
 -- numbers of its body in 01's order (Records, "Packet"), and a hello's unused words; 0 where it has none. Of a packet that is refused the refusal alone.
-use Rattle.std.specs.Prelude.{ℕ, List, get_or}
+use Rattle.std.specs.Prelude.{ℕ, List, get_or, Result, Ok, Err}
 use Rattle.command.specs.Command.{kind_number}
 use Rattle.command.specs.declared.SaharaCmd.{SaharaCmd}
 use Rattle.command.specs.declared.SaharaCmd.TheVariants as K
@@ -8,9 +8,9 @@ use Rattle.packet.specs.Packet.{kind_in}
 use Rattle.packet.specs.Told.{unk_from, body_values}
 use Rattle.packet.specs.declared.Unk.{Unk}
 use Rattle.packet.specs.declared.SaharaPacketBody.{SaharaPacketBody}
-use Rattle.packet.specs.declared.Decoded.{Decoded}
-use Rattle.packet.specs.declared.Decoded.TheVariants as D
 use Rattle.raw_packet.specs.declared.RawPacket.{RawPacket}
+use Rattle.refusal.specs.declared.Refusal.{Refusal}
+use Rattle.packet.specs.declared.SaharaPacket.{SaharaPacket}
 
 abbrev pub hello_packet : ℕ → ℕ → ℕ → ℕ → ℕ → ℕ → Unk → RawPacket
 hello_packet kind len value first second third unk =
@@ -85,6 +85,6 @@ refused_packet why =
       unk5 = 0;
     }
 
-abbrev pub raw_packet : Decoded → RawPacket
-raw_packet (D.Is p) = body_packet p.len p.body
-raw_packet (D.Refused why) = refused_packet why
+abbrev pub raw_packet : Result SaharaPacket Refusal → RawPacket
+raw_packet (Ok p) = body_packet p.len p.body
+raw_packet (Err why) = refused_packet why

@@ -63,7 +63,7 @@ fn hello(
         refused: 0,
         command: command,
         len: len,
-        value: mode_number(mode),
+        value: u32::from(mode),
         first: first as u64,
         second: second as u64,
         third: third as u64,
@@ -87,7 +87,7 @@ fn words(command: u32, len: u32, first: u32, second: u32, third: u32) -> RawPack
 fn execute(kind: u32, len: u32, command: SaharaCmdModeCmd, first: u32) -> RawPacket
     ensures { result ≡ plain_packet kind len (command_number command) first 0 0 }
 {
-    plain(kind, len, command_number(command), first as u64, 0, 0)
+    plain(kind, len, u32::from(command), first as u64, 0, 0)
 }
 
 fn body_packet(len: u32, body: SaharaPacketBody) -> RawPacket
@@ -126,7 +126,7 @@ fn body_packet(len: u32, body: SaharaPacketBody) -> RawPacket
     }
 }
 
-fn refused(why: u8) -> RawPacket
+fn refused(why: Refusal) -> RawPacket
     ensures { result ≡ refused_packet why }
 {
     RawPacket {
@@ -146,14 +146,14 @@ fn refused(why: u8) -> RawPacket
     }
 }
 
-pub fn raw_packet(d: Decoded) -> RawPacket
+pub fn raw_packet(d: Result<SaharaPacket, Refusal>) -> RawPacket
     ensures { result ≡ raw_packet d }
 {
     match d {
-        Decoded::Is(p) => {
+        Ok(p) => {
             let body = p.body;
             body_packet(p.len, body)
         }
-        Decoded::Refused(why) => refused(why),
+        Err(why) => refused(why),
     }
 }

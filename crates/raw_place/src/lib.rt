@@ -23,10 +23,10 @@ use session::Answer;
 fn formed(set: &[u8], names: &[u8]) -> bool
     ensures { result ≡ pick (well_formed true set.now) (well_formed false names.now) false }
 {
-    let Checked::Good = check_images(set) else {
+    let Ok(()) = check_images(set) else {
         return false;
     };
-    let Checked::Good = check_names(names) else {
+    let Ok(()) = check_names(names) else {
         return false;
     };
     true

@@ -78,16 +78,16 @@ pub fn raw_entry(e: EntryAt) -> RawEntry
     }
 }
 
-pub fn raw_range(x: ImageRange) -> RawRange
+pub fn raw_range(x: Result<(usize, usize), Refusal>) -> RawRange
     ensures { result ≡ raw_range x }
 {
     match x {
-        ImageRange::At(start, len) => RawRange {
+        Ok((start, len)) => RawRange {
             start: start,
             len: len,
             refused: 0,
         },
-        ImageRange::Refused(why) => RawRange {
+        Err(why) => RawRange {
             start: 0,
             len: 0,
             refused: why as u32,
@@ -95,15 +95,15 @@ pub fn raw_range(x: ImageRange) -> RawRange
     }
 }
 
-pub fn raw_sheet(x: Sheet) -> RawSheet
+pub fn raw_sheet(x: Result<usize, Refusal>) -> RawSheet
     ensures { result ≡ raw_sheet x }
 {
     match x {
-        Sheet::Made(k) => RawSheet {
+        Ok(k) => RawSheet {
             written: k,
             refused: 0,
         },
-        Sheet::Refused(why) => RawSheet {
+        Err(why) => RawSheet {
             written: 0,
             refused: why as u32,
         },
@@ -129,12 +129,12 @@ pub fn raw_forecast(x: Foreseen) -> RawForecast
     }
 }
 
-pub fn raw_tidied(x: Tidied) -> RawTidied
+pub fn raw_tidied(x: Result<usize, Refusal>) -> RawTidied
     ensures { result ≡ raw_tidied x }
 {
     match x {
-        Tidied::Made(k) => RawTidied { len: k, refused: 0 },
-        Tidied::Refused(why) => RawTidied {
+        Ok(k) => RawTidied { len: k, refused: 0 },
+        Err(why) => RawTidied {
             len: 0,
             refused: why as u32,
         },
@@ -142,21 +142,21 @@ pub fn raw_tidied(x: Tidied) -> RawTidied
 }
 
 // 0 where it is good, else the refusal.
-pub fn checked_number(c: Checked) -> u32
+pub fn checked_number(c: Result<(), Refusal>) -> u32
     ensures { result ≡ checked_number c }
 {
     match c {
-        Checked::Good => 0,
-        Checked::Refused(why) => why as u32,
+        Ok(()) => 0,
+        Err(why) => why as u32,
     }
 }
 
 // 0 where the packet is built, else the refusal.
-pub fn built_number(b: Built) -> u32
+pub fn built_number(b: Result<usize, Refusal>) -> u32
     ensures { result ≡ built_number b }
 {
     match b {
-        Built::Send(_) => 0,
-        Built::Refused(why) => why as u32,
+        Ok(_) => 0,
+        Err(why) => why as u32,
     }
 }

@@ -38,11 +38,11 @@ pub fn step(
 {
     let s = raw_at(head, numbers, window);
     let is_session = raw::is_session(s);
-    let Checked::Good = check_images(set) else {
-        return told(0, Answer::Refused(1));
+    let Ok(()) = check_images(set) else {
+        return told(0, Answer::Refused(Refusal::ImageSet));
     };
-    let Checked::Good = check_names(names) else {
-        return told(0, Answer::Refused(2));
+    let Ok(()) = check_names(names) else {
+        return told(0, Answer::Refused(Refusal::NameList));
     };
     if !is_session {
         return told(0, Answer::Refused(no_session(out)));

@@ -78,6 +78,9 @@ abbrev pub result_told : {A : Type 0} → (A → Told) → Result A Refusal → 
 result_told t (Ok a) = t a
 result_told t (Err why) = told_refused (refusal_number why)
 
--- what an operation tells that accepts or refuses
+-- what an operation gives that accepts, and what one tells that accepts or refuses
+abbrev pub accepted : Result Unit Refusal
+accepted = Ok tt
+
 abbrev pub accepted_told : Result Unit Refusal → Told
 accepted_told = result_told (λ _. told_go)

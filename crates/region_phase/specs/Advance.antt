@@ -14,6 +14,7 @@ use Rattle.session.specs.RegionPhase.{emptied_of, asked_of, asked_out, handed_of
 use Rattle.session.specs.Limits.{region_limit}
 use Rattle.region_phase.specs.declared.Advance.{Advance}
 use Rattle.region_phase.specs.declared.Advance.TheVariants as D
+use Rattle.refusal.specs.declared.Refusal.TheVariants as Refusal
 
 -- what is to be done, and the out buffer afterwards
 pub record Advanced : Type 0 where
@@ -38,8 +39,8 @@ advance_within v u m x n o =
 unfoldable pub advance_of : Width → Opening → ℕ → ℕ → Region → ℕ → List ℕ → List ℕ → Advanced
 advance_of v u m k x n t o =
     pick (ltb (length o) 48)
-    (advanced (D.Refused 3) o)
-    (pick (ltb (2 ^ 63 + 1) m || region_limit (field_size v) k x t) (advanced (D.Refused 18) o) (advance_within v u m x n o))
+    (advanced (D.Refused Refusal.OutBuffer) o)
+    (pick (ltb (2 ^ 63 + 1) m || region_limit (field_size v) k x t) (advanced (D.Refused Refusal.Limit) o) (advance_within v u m x n o))
 
 -- put into a session: the table's length, region, table and reply buffers, and the out buffer afterwards
 module _ (s : Session) (k : ℕ) (x : Region) (t y o : List ℕ) where

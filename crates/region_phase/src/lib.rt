@@ -27,7 +27,7 @@ use verdict::Opening;
 // it is to be closed.
 #[derive(Clone, Copy)]
 pub enum Advance {
-    Refused(u8),
+    Refused(Refusal),
     Waits,
     To(Counted),
     Begins,
@@ -119,13 +119,13 @@ pub fn advance_region(
     ensures { advanced result out.new ≡ advance_of width opening reads k x came table.now out.old }
 {
     if out.len() < 48 {
-        return Advance::Refused(3);
+        return Advance::Refused(Refusal::OutBuffer);
     }
     if reads_limit(reads) {
-        return Advance::Refused(18);
+        return Advance::Refused(Refusal::Limit);
     }
     if region_limit(width, k, x, table) {
-        return Advance::Refused(18);
+        return Advance::Refused(Refusal::Limit);
     }
     advance_within(width, opening, reads, x, came, out)
 }
@@ -184,7 +184,7 @@ fn begin_region(s: Session, k: usize, x: Region, table: &[u8], out: &mut [u8]) -
     let entry = at.entry;
     let name = entry.filename;
     let check = check_after_open(&name);
-    if let NameCheck::Refused(why) = check {
+    if let Err(why) = check {
         return moved(s, Phase::Ended(0), 0, Answer::Refused(why));
     }
     if past_memory(width, x.base, x.len) {

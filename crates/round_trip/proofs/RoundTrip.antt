@@ -13,14 +13,15 @@ use Rattle.command.specs.declared.SaharaCmdModeCmd.TheVariants as E
 use Rattle.packet.specs.Packet.{address_in, length_in, kind_of, decode_of}
 use Rattle.packet.specs.declared.SaharaPacketBody.{SaharaPacketBody}
 use Rattle.packet.specs.declared.SaharaPacketBody.TheVariants as B
-use Rattle.packet.specs.declared.Decoded.{Decoded}
-use Rattle.packet.specs.declared.Decoded.TheVariants as D
 use Rattle.build.specs.Build.{bytes_of, size_of}
 use Rattle.build.specs.declared.Request.TheVariants as Q
 use Rattle.build.proofs.RoundTrip.{mem_read_back}
+use Rattle.std.specs.Prelude.{Result, Ok}
+use Rattle.refusal.specs.declared.Refusal.{Refusal}
+use Rattle.packet.specs.declared.SaharaPacket.{SaharaPacket}
 
-abbrev packet : ℕ → SaharaPacketBody → Decoded
-packet n b = D.Is (record { len = n; body = b })
+abbrev packet : ℕ → SaharaPacketBody → Result SaharaPacket Refusal
+packet n b = Ok (record { len = n; body = b })
 
 -- version 2, compatible 1, status 0, the mode, zeros
 pub hello_resp_lem : (m : SaharaMode) → decode_of (bytes_of (Q.HelloResp m))

@@ -78,16 +78,16 @@ fn case_of(words: &[u8], most: usize) -> Case
 }
 
 fn mode_for(n: u32) -> SaharaMode {
-    match command::mode_of(n) {
-        ModeOf::Is(m) => m,
-        ModeOf::Bad => SaharaMode::WaitingForImage,
+    match SaharaMode::try_from(n) {
+        Ok(m) => m,
+        Err(_) => SaharaMode::WaitingForImage,
     }
 }
 
-fn command_for(n: u32) -> ExecCommand {
-    match command::command_of(n) {
-        CommandOf::Is(c) => ExecCommand::Is(c),
-        CommandOf::Bad => ExecCommand::None,
+fn command_for(n: u32) -> Option<SaharaCmdModeCmd> {
+    match SaharaCmdModeCmd::try_from(n) {
+        Ok(c) => Some(c),
+        Err(_) => None,
     }
 }
 

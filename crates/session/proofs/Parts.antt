@@ -16,6 +16,7 @@ use Rattle.field.specs.Field.{field_size}
 use Rattle.session.specs.Limits.{reads_limit, phase_limit, limit_of}
 use Rattle.session.specs.Step.{on_phase, step_of, closed_of}
 use Rattle.session.specs.Guard.{packet_step, response_step, switched_step, table_step, between_step, region_step, phase_step}
+use Rattle.refusal.specs.declared.Refusal.TheVariants as Refusal
 
 -- a session, a delivery, image set, names, table, reply and out buffers
 module _ (s : Session) (d set names t y o : List ℕ) where
@@ -51,8 +52,8 @@ module _ (s : Session) (d set names t y o : List ℕ) where
 
 -- ---- the channel's end
 
-pub closed_live : (s : Session) → is_ended s.phase ≡ false → closed_of s ≡ gives (ended s) 0 (A.Refused 23)
+pub closed_live : (s : Session) → is_ended s.phase ≡ false → closed_of s ≡ gives (ended s) 0 (A.Refused Refusal.Closed)
 closed_live s e = rw e refl
 
-pub closed_ended : (s : Session) → is_ended s.phase ≡ true → closed_of s ≡ gives s 0 (A.Refused 4)
+pub closed_ended : (s : Session) → is_ended s.phase ≡ true → closed_of s ≡ gives s 0 (A.Refused Refusal.Ended)
 closed_ended s e = rw e refl

@@ -13,6 +13,7 @@ use Rattle.session.specs.declared.Phase.TheVariants as P
 use Rattle.session.specs.declared.Session.{Session}
 use Rattle.session.specs.declared.Answer.TheVariants as A
 use Rattle.session.specs.Outcome.{reading, holding, of_width, ended, filling, Outcome, outcome, gives}
+use Rattle.refusal.specs.declared.Refusal.TheVariants as Refusal
 
 -- the window with bytes x behind the first h held ones; what passes 48 bytes is not kept, and what stood behind x stays: a session's every byte is told.
 -- 48 is a hello, the longest of the kinds' least packets (`least_fits` of packet/proofs/Laws)
@@ -44,7 +45,7 @@ whole_of s n w set t y o = acted s n w t y o (verdict_of s.opening set (length t
 unfoldable pub sized_of : Session → ℕ → List ℕ → ℕ → List ℕ → List ℕ → List ℕ → List ℕ → Outcome
 sized_of s h d size set t y o =
     pick (bad_length size)
-    (outcome (gives (ended s) (8 - h) (A.Refused 5)) t y o)
+    (outcome (gives (ended s) (8 - h) (A.Refused Refusal.PacketLength)) t y o)
     (let n = min (size - h) (length d) in
     pick (ltb (h + n) size)
     (outcome (gives (holding s (keep s.window h (take n d)) (P.Packet (h + n))) n A.Go) t y o)

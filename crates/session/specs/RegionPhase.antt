@@ -1,15 +1,13 @@
 -- *Region*. Document 01, "Session": "an empty read first if one is due; with no chunk outstanding, close if all is done, else send MemRead64 for
 -- min(4096, rest) at base + done and add one to the memory reads; else hand out min(outstanding, delivery)". Document 02, request 2: "After MemDebug the host ..
 -- sends MemRead .. for every chunk". v is the session's width.
-use Rattle.std.specs.Prelude.{ℕ, suc, ◌+◌, ◌-◌, ◌%◌, ◌^◌, min, Bool, false, ◌&&◌, List, ltb, leb, eqb, length}
+use Rattle.std.specs.Prelude.{ℕ, suc, ◌+◌, ◌-◌, ◌%◌, ◌^◌, min, Bool, false, ◌&&◌, List, ltb, leb, eqb, length, Result, Ok, Err}
 use Rattle.base.specs.Choice.{pick}
 use Rattle.field.specs.Field.{field_size}
 use Rattle.field.specs.declared.Width.{Width}
 use Rattle.field.specs.declared.Width.TheVariants as WI
 use Rattle.entry.specs.Entry.{entry_of, filename_of}
 use Rattle.filename.specs.Filename.{after_open_check}
-use Rattle.filename.specs.declared.NameCheck.{NameCheck}
-use Rattle.filename.specs.declared.NameCheck.TheVariants as N
 use Rattle.build.specs.Build.{size_of, front}
 use Rattle.build.specs.declared.Request.TheVariants as Q
 use Rattle.verdict.specs.Opening.{chunk_of, on_usb}
@@ -22,6 +20,8 @@ use Rattle.session.specs.declared.Answer.TheVariants as A
 use Rattle.session.specs.declared.Stepped.{Stepped}
 use Rattle.session.specs.declared.Counted.{Counted}
 use Rattle.session.specs.Outcome.{in_phase, reading, ended, region, Outcome, outcome, gives}
+use Rattle.refusal.specs.declared.Refusal.{Refusal}
+use Rattle.refusal.specs.Refusal.{accepted}
 
 -- "On USB a chunk that is a multiple of 512 makes one empty read due when its last byte is handed out, that is, when nothing is outstanding and done is a
 -- multiple of 512". The test is of done: every chunk but a region's last is a multiple of 512, so done is one just where the chunk is
@@ -89,12 +89,12 @@ past_end WI.Bits64 = 22
 -- "in the step after open (nothing done or outstanding, no empty read due)": 21 by the table that is lent in that step, 22 or 24 by the base and length that
 -- the session keeps; 256 ^ field_size is 2^64 or 2^32. With nothing outstanding, done is 0 only before the first memory read: each asks for at least a byte, and its bytes
 -- are handed out before the next
-abbrev pub begun_of : Session → ℕ → Region → List ℕ → List ℕ → List ℕ → NameCheck → Outcome
-begun_of s k x t y o N.Good =
+abbrev pub begun_of : Session → ℕ → Region → List ℕ → List ℕ → List ℕ → Result Unit Refusal → Outcome
+begun_of s k x t y o accepted =
     pick (ltb (256 ^ field_size s.width) (x.base + x.len))
     (outcome (gives (ended s) 0 (A.Refused (past_end s.width))) t y o)
     (next_chunk s k x t y o)
-begun_of s k x t y o (N.Refused why) = outcome (gives (ended s) 0 (A.Refused why)) t y o
+begun_of s k x t y o (Err why) = outcome (gives (ended s) 0 (A.Refused why)) t y o
 
 -- the name of a region's entry, by the table t that is lent
 abbrev pub name_in : Width → List ℕ → Region → List ℕ

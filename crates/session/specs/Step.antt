@@ -16,6 +16,7 @@ use Rattle.session.specs.FillingPhase.{response_of, switched_of, table_of}
 use Rattle.session.specs.BetweenPhase.{between_of}
 use Rattle.session.specs.RegionPhase.{region_of}
 use Rattle.session.specs.Limits.{limit_of}
+use Rattle.refusal.specs.declared.Refusal.TheVariants as Refusal
 
 -- by the phase
 abbrev pub on_phase : Session → Phase → List ℕ → List ℕ → List ℕ → List ℕ → List ℕ → List ℕ → Outcome
@@ -25,7 +26,7 @@ on_phase s (P.Switched k) d set names t y o = switched_of s k t y o
 on_phase s (P.Table x) d set names t y o = table_of s x d t y o
 on_phase s (P.Between k i) d set names t y o = outcome (between_of (field_size s.width) s k i names t) t y o
 on_phase s (P.Region k x) d set names t y o = region_of s k x d t y o
-on_phase s (P.Ended k) d set names t y o = outcome (gives s 0 (A.Refused 4)) t y o
+on_phase s (P.Ended k) d set names t y o = outcome (gives s 0 (A.Refused Refusal.Ended)) t y o
 
 -- session, delivery, image set, names, table, reply and out buffers. "Where several apply, the first written here is given": 1, 2, 3, 4, 18, the phase
 unfoldable pub step_of : Session → List ℕ → List ℕ → List ℕ → List ℕ → List ℕ → List ℕ → Outcome
@@ -38,4 +39,4 @@ step_of s d set names t y o =
 
 -- "Channel closed: 4, else 23, session ended."
 abbrev pub closed_of : Session → Stepped
-closed_of s = pick (is_ended s.phase) (gives s 0 (A.Refused 4)) (gives (ended s) 0 (A.Refused 23))
+closed_of s = pick (is_ended s.phase) (gives s 0 (A.Refused Refusal.Ended)) (gives (ended s) 0 (A.Refused Refusal.Closed))

@@ -63,7 +63,7 @@ pub enum Answer {
     EmptyRead,
     Close(usize),
     Finished(u8, u64),
-    Refused(u8),
+    Refused(Refusal),
 }
 
 #[derive(Clone, Copy)]

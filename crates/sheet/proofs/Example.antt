@@ -15,8 +15,9 @@ use Rattle.entry.specs.Entry.{entry_in}
 use Rattle.filename.specs.Filename.{before}
 use Rattle.sheet.specs.Sheet.{printed, columns, digit, hex, mark, text_of, line_of, lines_of, sheet_bytes, sheet_outcome, sheet_of}
 use Rattle.sheet.specs.Reading.{AllBytes, Alike}
-use Rattle.sheet.specs.declared.Sheet.TheVariants as S
 use Rattle.sheet.proofs.Reading.{same_sheet}
+use Rattle.std.specs.Prelude.{Ok, Err}
+use Rattle.refusal.specs.declared.Refusal.TheVariants as Refusal
 
 -- bytes, by a test of each
 bytes_by : (s : List ℕ) → T (every (λ (i : ℕ). ltb (get_or s i 0) 256) 0 (length s)) → AllBytes s
@@ -73,15 +74,15 @@ unfolding new hostile entry ddr line plain_line le le_bytes before printed colum
 two_lines = refl
 
 -- on a page of 58 bytes its last stays, one of 56 is refused; an empty table prints nothing, on an empty page too
-pub made_58 : sheet_of (field_size WI.Bits64) new (replicate 58 7) ≡ sheet_outcome (S.Made 57) (line ++ 7 ∷ [])
+pub made_58 : sheet_of (field_size WI.Bits64) new (replicate 58 7) ≡ sheet_outcome (Ok 57) (line ++ 7 ∷ [])
 unfolding new entry ddr line le le_bytes before printed columns digit hex mark text_of line_of lines_of sheet_of
 made_58 = refl
 
-pub refused_56 : sheet_of (field_size WI.Bits64) new (replicate 56 7) ≡ sheet_outcome (S.Refused 25) (replicate 56 7)
+pub refused_56 : sheet_of (field_size WI.Bits64) new (replicate 56 7) ≡ sheet_outcome (Err Refusal.SheetPage) (replicate 56 7)
 unfolding new entry ddr le_bytes sheet_of
 refused_56 = refl
 
-pub nothing_made : sheet_of (field_size WI.Bits64) [] [] ≡ sheet_outcome (S.Made 0) []
+pub nothing_made : sheet_of (field_size WI.Bits64) [] [] ≡ sheet_outcome (Ok 0) []
 unfolding lines_of sheet_of
 nothing_made = refl
 

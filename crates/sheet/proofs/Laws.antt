@@ -17,6 +17,8 @@ use Rattle.entry.proofs.Laws.{there_below, length_filename}
 use Rattle.filename.specs.Filename.{before}
 use Rattle.filename.proofs.Laws.{length_before, take_before}
 use Rattle.sheet.specs.Sheet.{
+use Rattle.std.specs.Prelude.{Ok, Err}
+use Rattle.refusal.specs.declared.Refusal.TheVariants as Refusal
   blank,
   line_feed,
   printed,
@@ -33,7 +35,6 @@ use Rattle.sheet.specs.Sheet.{
   sheet_outcome_told,
   sheet_of,
 }
-use Rattle.sheet.specs.declared.Sheet.TheVariants as S
 
 -- ---- lengths
 
@@ -151,14 +152,14 @@ module _ (f : ℕ) (t : List ℕ) where
   -- ---- outcomes
 
   -- a page that is too short
-  pub refuses : (p : List ℕ) → length p < sheet_size f t → Tells sheet_outcome_told (sheet_outcome (S.Refused 25) p) (sheet_of f t p)
+  pub refuses : (p : List ℕ) → length p < sheet_size f t → Tells sheet_outcome_told (sheet_outcome (Err Refusal.SheetPage) p) (sheet_of f t p)
   unfolding sheet_of
   refuses p h = tells sheet_outcome_told (simp (lt-ltb (length p) (sheet_size f t) h))
 
   -- and one on which the lines are stored from its beginning on
   pub writes : (p q : List ℕ) → sheet_size f t ≤ length p → q ≡ sets p 0 (sheet_bytes f t)
-      → Tells sheet_outcome_told (sheet_outcome (S.Made (sheet_size f t)) q) (sheet_of f t p)
+      → Tells sheet_outcome_told (sheet_outcome (Ok (sheet_size f t)) q) (sheet_of f t p)
   unfolding sheet_of
   writes p q h e =
       let r : q ≡ sheet_bytes f t ++ drop (sheet_size f t) p = e ∙ sets_front (sheet_bytes f t) p (sheet_size f t) length_sheet h in
-      tells sheet_outcome_told (rw (le-ltb (length p) (sheet_size f t) h) (ap (sheet_outcome (S.Made (sheet_size f t))) r))
+      tells sheet_outcome_told (rw (le-ltb (length p) (sheet_size f t) h) (ap (sheet_outcome (Ok (sheet_size f t))) r))

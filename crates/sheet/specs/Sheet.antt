@@ -3,14 +3,14 @@
 -- name stops at its first zero byte and is padded with blanks; bytes outside 0x20..0x7E print as '?'. Entries of 32 bits use the same widths. An empty table
 -- prints nothing. 25 when the lent page is shorter than 57 times the entries, page untouched." The width f of an entry's numbers, 8 or 4 bytes, is a parameter,
 -- as in entry/specs/Entry. A line is of a decoded entry, its numbers already widened: one rule for both widths.
-use Rattle.std.specs.Prelude.{ℕ, zero, suc, ◌+◌, ◌-◌, ◌*◌, ◌/◌, ◌%◌, ◌&&◌, List, [], ◌∷◌, ◌++◌, map, ltb, leb, eqb, length, drop, replicate}
+use Rattle.std.specs.Prelude.{ℕ, zero, suc, ◌+◌, ◌-◌, ◌*◌, ◌/◌, ◌%◌, ◌&&◌, List, [], ◌∷◌, ◌++◌, map, ltb, leb, eqb, length, drop, replicate, Result, Ok, Err}
 use Rattle.base.specs.Choice.{pick}
 use Rattle.base.specs.Told.{Told, told, told_refused}
 use Rattle.entry.specs.Entry.{entries_in, entry_in}
 use Rattle.entry.specs.declared.RamdumpTable64.{RamdumpTable64}
 use Rattle.filename.specs.Filename.{before}
-use Rattle.sheet.specs.declared.Sheet.{Sheet}
-use Rattle.sheet.specs.declared.Sheet.TheVariants as S
+use Rattle.refusal.specs.declared.Refusal.{Refusal}
+use Rattle.refusal.specs.declared.Refusal.TheVariants as Refusal
 
 -- characters; the request's "space" and "blank" are one
 abbrev pub blank : ℕ
@@ -73,16 +73,16 @@ sheet_size f t = line_size * entries_in f (length t)
 
 -- a sheet's whole outcome: the answer, and the page afterwards
 pub record SheetOutcome : Type 0 where
-  pub sheet : Sheet
+  pub sheet : Result ℕ Refusal
   pub page : List ℕ
 
-abbrev pub sheet_outcome : Sheet → List ℕ → SheetOutcome
+abbrev pub sheet_outcome : Result ℕ Refusal → List ℕ → SheetOutcome
 sheet_outcome s p = record { sheet = s; page = p }
 
 -- what the answer tells: an operation that accepts tells go, here with the bytes written
-abbrev pub sheet_told : Sheet → Told
-sheet_told (S.Made k) = told 0 (k ∷ [])
-sheet_told (S.Refused why) = told_refused why
+abbrev pub sheet_told : Result ℕ Refusal → Told
+sheet_told (Ok k) = told 0 (k ∷ [])
+sheet_told (Err why) = told_refused why
 
 abbrev pub sheet_outcome_told : SheetOutcome → Told
 sheet_outcome_told x = sheet_told x.sheet
@@ -91,5 +91,5 @@ sheet_outcome_told x = sheet_told x.sheet
 unfoldable pub sheet_of : ℕ → List ℕ → List ℕ → SheetOutcome
 sheet_of f t p =
     pick (ltb (length p) (sheet_size f t))
-    (sheet_outcome (S.Refused 25) p)
-    (sheet_outcome (S.Made (sheet_size f t)) (sheet_bytes f t ++ drop (sheet_size f t) p))
+    (sheet_outcome (Err Refusal.SheetPage) p)
+    (sheet_outcome (Ok (sheet_size f t)) (sheet_bytes f t ++ drop (sheet_size f t) p))

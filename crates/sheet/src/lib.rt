@@ -28,7 +28,7 @@ use filename::find;
 #[derive(Clone, Copy)]
 pub enum Sheet {
     Made(usize),
-    Refused(u8),
+    Refused(Refusal),
 }
 
 // The bytes of a line.
@@ -140,13 +140,13 @@ fn put_lines(page: &mut [u8], table: &[u8], width: Width, n: usize)
 }
 
 // The sheet of a table, a line an entry. Where the page is too short for all of them, none is written.
-pub fn region_sheet(table: &[u8], width: Width, page: &mut [u8]) -> Sheet
+pub fn region_sheet(table: &[u8], width: Width, page: &mut [u8]) -> Result<usize, Refusal>
     ensures { Tells sheet_outcome_told (sheet_outcome result page.new) (sheet_of (field_size width) table.now page.old) }
 {
     let n = entries_in(width, table.len());
     if page.len() / LINE < n {
-        return Sheet::Refused(25);
+        return Err(Refusal::SheetPage);
     }
     put_lines(page, table, width, n);
-    Sheet::Made(LINE * n)
+    Ok(LINE * n)
 }

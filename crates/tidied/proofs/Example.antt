@@ -12,8 +12,9 @@ use Rattle.bundle.specs.Bundle.{slots_good, well_formed, slot_of}
 use Rattle.writer.specs.Writer.{data_of, starts_from, bundle_bytes}
 use Rattle.tidied.specs.Tidy.{first_contents, tidy_len_of, tidy_outcome, tidy_of}
 use Rattle.tidied.specs.Claim.{EqualSets, TidyForm}
-use Rattle.tidied.specs.declared.Tidied.TheVariants as T
 use Rattle.tidied.proofs.Theorem.{same_images, equal_exactly, twice_is_once}
+use Rattle.std.specs.Prelude.{Ok, Err}
+use Rattle.refusal.specs.declared.Refusal.TheVariants as Refusal
 
 abbrev mark : ℕ
 mark = 0xFFFFFFFF
@@ -49,19 +50,19 @@ fewer = words (4 ∷ 3 ∷ 0 ∷ mark ∷ 2 ∷ 2 ∷ 2 ∷ 0 ∷ 0 ∷ 1 ∷ []
 abbrev room : List ℕ
 room = replicate 56 7
 
-one_tidied : tidy_of one room ≡ tidy_outcome (T.Made 51) (form ++ replicate 5 7)
+one_tidied : tidy_of one room ≡ tidy_outcome (Ok 51) (form ++ replicate 5 7)
 unfolding tidy_of tidy_len_of well_formed slots_good slot_of le le_bytes fields first_contents data_of starts_from bundle_bytes
 one_tidied = refl
 
-two_tidied : tidy_of two room ≡ tidy_outcome (T.Made 51) (form ++ replicate 5 7)
+two_tidied : tidy_of two room ≡ tidy_outcome (Ok 51) (form ++ replicate 5 7)
 unfolding tidy_of tidy_len_of well_formed slots_good slot_of le le_bytes fields first_contents data_of starts_from bundle_bytes
 two_tidied = refl
 
-three_tidied : tidy_of three room ≡ tidy_outcome (T.Made 51) (other ++ replicate 5 7)
+three_tidied : tidy_of three room ≡ tidy_outcome (Ok 51) (other ++ replicate 5 7)
 unfolding tidy_of tidy_len_of well_formed slots_good slot_of le le_bytes fields first_contents data_of starts_from bundle_bytes
 three_tidied = refl
 
-four_tidied : tidy_of four room ≡ tidy_outcome (T.Made 43) (fewer ++ replicate 13 7)
+four_tidied : tidy_of four room ≡ tidy_outcome (Ok 43) (fewer ++ replicate 13 7)
 unfolding tidy_of tidy_len_of well_formed slots_good slot_of le le_bytes fields first_contents data_of starts_from bundle_bytes
 four_tidied = refl
 
@@ -119,22 +120,22 @@ form_equal : EqualSets form two
 form_equal = (same_images two form form_two).1
 
 -- tidied again
-again : tidy_of form room ≡ tidy_outcome (T.Made 51) (form ++ replicate 5 7)
+again : tidy_of form room ≡ tidy_outcome (Ok 51) (form ++ replicate 5 7)
 again = twice_is_once one form form_one room ∙ one_tidied
 
 -- ---- refusals
 
 -- a buffer of 50 bytes is one too short, and stays as it was
-short : tidy_of one (replicate 50 7) ≡ tidy_outcome (T.Refused 29) (replicate 50 7)
+short : tidy_of one (replicate 50 7) ≡ tidy_outcome (Err Refusal.TidyRoom) (replicate 50 7)
 unfolding tidy_of tidy_len_of well_formed slots_good slot_of le le_bytes fields first_contents data_of starts_from bundle_bytes
 short = refl
 
 -- of the form itself, too
-short_again : tidy_of form (replicate 50 7) ≡ tidy_outcome (T.Refused 29) (replicate 50 7)
+short_again : tidy_of form (replicate 50 7) ≡ tidy_outcome (Err Refusal.TidyRoom) (replicate 50 7)
 short_again = twice_is_once one form form_one (replicate 50 7) ∙ short
 
 -- a byte behind the data: malformed, before the buffer is looked at
-malformed : tidy_of (one ++ 0 ∷ []) [] ≡ tidy_outcome (T.Refused 28) []
+malformed : tidy_of (one ++ 0 ∷ []) [] ≡ tidy_outcome (Err Refusal.TidySet) []
 unfolding tidy_of tidy_len_of well_formed slots_good slot_of le le_bytes fields first_contents data_of starts_from bundle_bytes
 malformed = refl
 
@@ -142,11 +143,11 @@ malformed = refl
 abbrev marks : List ℕ
 marks = words (2 ∷ 0 ∷ mark ∷ mark ∷ 0 ∷ 0 ∷ [])
 
-nothing_there : tidy_of marks (replicate 24 7) ≡ tidy_outcome (T.Made 24) marks
+nothing_there : tidy_of marks (replicate 24 7) ≡ tidy_outcome (Ok 24) marks
 unfolding tidy_of tidy_len_of well_formed slots_good slot_of le le_bytes fields first_contents data_of starts_from bundle_bytes
 nothing_there = refl
 
 -- no slots: 8 zero bytes
-no_slots : tidy_of (replicate 8 0) (replicate 8 7) ≡ tidy_outcome (T.Made 8) (replicate 8 0)
+no_slots : tidy_of (replicate 8 0) (replicate 8 7) ≡ tidy_outcome (Ok 8) (replicate 8 0)
 unfolding tidy_of tidy_len_of well_formed slots_good slot_of le le_bytes fields first_contents data_of starts_from bundle_bytes
 no_slots = refl

@@ -20,10 +20,11 @@ use Rattle.bundle.specs.Content.{Content, bytes_in, size_in, content_of}
 use Rattle.writer.specs.Writer.{data_of, start_for, starts_from, bundle_bytes, most_data}
 use Rattle.writer.proofs.Laws.{data_more, starts_more, length_starts, length_bundle}
 use Rattle.tidied.specs.Tidy.{first_contents, contents_of, tidy_bytes, tidy_data, tidy_len_of, tidy_of, tidy_outcome}
-use Rattle.tidied.specs.declared.Tidied.TheVariants as T
+use Rattle.std.specs.Prelude.{Ok, Err}
+use Rattle.refusal.specs.declared.Refusal.TheVariants as Refusal
 
 -- the answers differ
-pub refused≢made : {why k : ℕ} → T.Refused why ≡ T.Made k → ⊥
+pub refused≢made : {why k : ℕ} → Err why ≡ Ok k → ⊥
 refused≢made q = let z : ◌≡◌ {A = ℕ} 0 1 = cc in omega arith
 
 -- ---- the first slots of a set
@@ -153,41 +154,41 @@ module _ (set : List ℕ) where
 
   -- ---- outcomes
 
-  pub len_malformed : well_formed true set ≡ false → tidy_len_of set ≡ T.Refused 28
+  pub len_malformed : well_formed true set ≡ false → tidy_len_of set ≡ Err Refusal.TidySet
   unfolding tidy_len_of
   len_malformed h = simp h
 
-  pub len_passes : well_formed true set ≡ true → most_data < tidy_data set → tidy_len_of set ≡ T.Refused 29
+  pub len_passes : well_formed true set ≡ true → most_data < tidy_data set → tidy_len_of set ≡ Err Refusal.TidyRoom
   unfolding tidy_len_of
   len_passes h l = simp (h, lt-ltb most_data (tidy_data set) l)
 
-  pub len_made : well_formed true set ≡ true → tidy_data set ≤ most_data → tidy_len_of set ≡ T.Made (length (tidy_bytes set))
+  pub len_made : well_formed true set ≡ true → tidy_data set ≤ most_data → tidy_len_of set ≡ Ok (length (tidy_bytes set))
   unfolding tidy_len_of
   len_made h l = simp (h, le-ltb most_data (tidy_data set) l)
 
   -- a length that is told is that of a well-formed set whose data is not too much
-  pub made_of : (len : ℕ) → tidy_len_of set ≡ T.Made len → (well_formed true set ≡ true) × (tidy_data set ≤ most_data) × (length (tidy_bytes set) ≡ len)
+  pub made_of : (len : ℕ) → tidy_len_of set ≡ Ok len → (well_formed true set ≡ true) × (tidy_data set ≤ most_data) × (length (tidy_bytes set) ≡ len)
   unfolding tidy_len_of
   made_of len e =
-      let t = by_then (well_formed true set) _ (T.Refused 28) refused≢made e in
-      let u = by_else (ltb most_data (tidy_data set)) (T.Refused 29) _ refused≢made t.1 in
+      let t = by_then (well_formed true set) _ (Err Refusal.TidySet) refused≢made e in
+      let u = by_else (ltb most_data (tidy_data set)) (Err Refusal.TidyRoom) _ refused≢made t.1 in
       (t.0, ltb-false _ _ u.0, (let q : length (tidy_bytes set) ≡ len = cc in q))
 
   module _ (to : List ℕ) where
-    pub tidy_refused : (why : ℕ) → tidy_len_of set ≡ T.Refused why → tidy_of set to ≡ tidy_outcome (T.Refused why) to
+    pub tidy_refused : (why : ℕ) → tidy_len_of set ≡ Err why → tidy_of set to ≡ tidy_outcome (Err why) to
     unfolding tidy_of
     tidy_refused why e = simp e
 
-    pub tidy_short : (len : ℕ) → tidy_len_of set ≡ T.Made len → length to < len → tidy_of set to ≡ tidy_outcome (T.Refused 29) to
+    pub tidy_short : (len : ℕ) → tidy_len_of set ≡ Ok len → length to < len → tidy_of set to ≡ tidy_outcome (Err Refusal.TidyRoom) to
     unfolding tidy_of
     tidy_short len e h = simp (e, lt-ltb (length to) len h)
 
-    pub tidy_fits : (len : ℕ) → tidy_len_of set ≡ T.Made len → len ≤ length to → tidy_of set to ≡ tidy_outcome (T.Made len) (tidy_bytes set ++ drop len to)
+    pub tidy_fits : (len : ℕ) → tidy_len_of set ≡ Ok len → len ≤ length to → tidy_of set to ≡ tidy_outcome (Ok len) (tidy_bytes set ++ drop len to)
     unfolding tidy_of
     tidy_fits len e h = simp (e, le-ltb (length to) len h)
 
     -- the form is stored from the buffer's beginning on
-    pub tidy_stored : (len : ℕ) (q : List ℕ) → tidy_len_of set ≡ T.Made len → len ≤ length to → q ≡ sets to 0 (tidy_bytes set)
-        → tidy_outcome (T.Made len) q ≡ tidy_of set to
+    pub tidy_stored : (len : ℕ) (q : List ℕ) → tidy_len_of set ≡ Ok len → len ≤ length to → q ≡ sets to 0 (tidy_bytes set)
+        → tidy_outcome (Ok len) q ≡ tidy_of set to
     tidy_stored len q e h x =
-        ap (tidy_outcome (T.Made len)) (x ∙ sets_front (tidy_bytes set) to len (made_of len e).2 h) ∙ sym (tidy_fits len e h)
+        ap (tidy_outcome (Ok len)) (x ∙ sets_front (tidy_bytes set) to len (made_of len e).2 h) ∙ sym (tidy_fits len e h)

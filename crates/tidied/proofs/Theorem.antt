@@ -17,9 +17,9 @@ use Rattle.writer.specs.Writer.{bundle_bytes, most_data}
 use Rattle.writer.proofs.Laws.{count_back, set_back, content_back}
 use Rattle.tidied.specs.Tidy.{first_contents, contents_of, tidy_bytes, tidy_data, tidy_len_of, placed, TidyOutcome, tidy_of}
 use Rattle.tidied.specs.Claim.{EqualSets, TidyForm, EqualExactly, SameImages, TwiceIsOnce}
-use Rattle.tidied.specs.declared.Tidied.{Tidied}
-use Rattle.tidied.specs.declared.Tidied.TheVariants as T
 use Rattle.tidied.proofs.Laws.{refused≢made, length_first, first_at, len_made, made_of, tidy_refused, tidy_short, tidy_fits}
+use Rattle.std.specs.Prelude.{Result, Ok, Err}
+use Rattle.refusal.specs.declared.Refusal.{Refusal}
 
 -- ---- equal sets have the same contents
 
@@ -72,15 +72,15 @@ pub record Given (set form : List ℕ) : Type 0 where
 pub given : (set form : List ℕ) → TidyForm set form → Given set form
 given set form f = by (tidy_len_of set) refl
   where
-    by : (x : Tidied) → tidy_len_of set ≡ x → Given set form
-    by (T.Refused why) e = absurd (refused≢made (sym (ap (λ (o : TidyOutcome). o.tidied) (tidy_refused set f.to why e)) ∙ f.made))
-    by (T.Made k) e =
+    by : (x : Result ℕ Refusal) → tidy_len_of set ≡ x → Given set form
+    by (Err why) e = absurd (refused≢made (sym (ap (λ (o : TidyOutcome). o.tidied) (tidy_refused set f.to why e)) ∙ f.made))
+    by (Ok k) e =
         ⊎_elim
         (λ (h : length f.to < k). absurd (refused≢made (sym (ap (λ (o : TidyOutcome). o.tidied) (tidy_short set f.to k e h)) ∙ f.made)))
         (λ (h : k ≤ length f.to).
         let m = made_of set k e in
         let o : tidy_of set f.to ≡ _ = tidy_fits set f.to k e h in
-        let n : T.Made k ≡ T.Made f.len = sym (ap (λ (o : TidyOutcome). o.tidied) o) ∙ f.made in
+        let n : Ok k ≡ Ok f.len = sym (ap (λ (o : TidyOutcome). o.tidied) o) ∙ f.made in
         let q : k ≡ f.len = cc in
         record {
           good = m.0;
@@ -126,6 +126,6 @@ twice_is_once a p f to =
     let l : tidy_data t ≤ most_data = rw s g.little in
     let k : tidy_len_of t ≡ tidy_len_of a =
     len_made t (form_formed a g.good g.little) l
-    ∙ ap (λ (x : List ℕ). T.Made (length x)) e
+    ∙ ap (λ (x : List ℕ). Ok (length x)) e
     ∙ sym (len_made a g.good g.little) in
     rw g.is (ap (λ (x : List ℕ). placed x to (tidy_len_of t)) e ∙ ap (placed (tidy_bytes a) to) k)

@@ -1,11 +1,10 @@
 -- What document 02, request 6, claims of the tidy form: "Two sets are equal if each ID below 64, looked up as a plain slot, has the same bytes or is absent in both;
 -- where neither is refused, equal sets must have equal tidy bytes, and only they. Tidying twice is tidying once." Request 7: "From now on sets are equal only if their
 -- slot counts agree too". What it claims of sessions: two_runs/specs/Claim.
-use Rattle.std.specs.Prelude.{ℕ, ◌<◌, ◌≡◌, true, ◌↔◌, List, take}
+use Rattle.std.specs.Prelude.{ℕ, ◌<◌, ◌≡◌, true, ◌↔◌, List, take, Ok}
 use Rattle.bundle.specs.Bundle.{count_of, well_formed}
 use Rattle.bundle.specs.Content.{content_of}
 use Rattle.tidied.specs.Tidy.{tidy_of}
-use Rattle.tidied.specs.declared.Tidied.TheVariants as T
 
 -- "Two sets are equal if each ID below 64, looked up as a plain slot, has the same bytes or is absent in both": no one-image rule; "only if their slot counts agree
 -- too"
@@ -17,7 +16,7 @@ pub record EqualSets (a b : List ℕ) : Type 0 where
 pub record TidyForm (set form : List ℕ) : Type 0 where
   pub to : List ℕ
   pub len : ℕ
-  pub made : (tidy_of set to).tidied ≡ T.Made len
+  pub made : (tidy_of set to).tidied ≡ Ok len
   pub bytes : form ≡ take len (tidy_of set to).to
 
 -- "where neither is refused, equal sets must have equal tidy bytes, and only they"

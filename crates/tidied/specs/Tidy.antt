@@ -2,14 +2,14 @@
 -- image starting where the bytes before it end (so in every bundle we write), absent slots marked .. 28 when the set is malformed, checked first. 29 when the tidy
 -- form does not fit the lent buffer or passes 2^32 - 2 data bytes (an empty image must not start at the absent mark), buffer untouched." Request 7, in the place of
 -- "trailing absent slots dropped": "tidying preserves the count". What a bundle of these slots looks like: writer/specs/Writer.
-use Rattle.std.specs.Prelude.{ℕ, zero, suc, true, List, [], ◌∷◌, ◌++◌, ltb, length, drop}
+use Rattle.std.specs.Prelude.{ℕ, zero, suc, true, List, [], ◌∷◌, ◌++◌, ltb, length, drop, Result, Ok, Err}
 use Rattle.base.specs.Choice.{pick}
 use Rattle.base.specs.Told.{Told, told, told_refused}
 use Rattle.bundle.specs.Bundle.{count_of, well_formed}
 use Rattle.bundle.specs.Content.{Content, content_of}
 use Rattle.writer.specs.Writer.{data_of, bundle_bytes, most_data}
-use Rattle.tidied.specs.declared.Tidied.{Tidied}
-use Rattle.tidied.specs.declared.Tidied.TheVariants as T
+use Rattle.refusal.specs.declared.Refusal.{Refusal}
+use Rattle.refusal.specs.declared.Refusal.TheVariants as Refusal
 
 -- the contents of the first k slots, in slot order
 unfoldable pub first_contents : List ℕ → ℕ → List Content
@@ -28,30 +28,30 @@ abbrev pub tidy_data : List ℕ → ℕ
 tidy_data set = length (data_of (contents_of set))
 
 -- how long it is: "28 when the set is malformed, checked first. 29 when the tidy form .. passes 2^32 - 2 data bytes"
-unfoldable pub tidy_len_of : List ℕ → Tidied
-tidy_len_of set = pick (well_formed true set) (pick (ltb most_data (tidy_data set)) (T.Refused 29) (T.Made (length (tidy_bytes set)))) (T.Refused 28)
+unfoldable pub tidy_len_of : List ℕ → Result ℕ Refusal
+tidy_len_of set = pick (well_formed true set) (pick (ltb most_data (tidy_data set)) (Err Refusal.TidyRoom) (Ok (length (tidy_bytes set)))) (Err Refusal.TidySet)
 
 -- a whole outcome: the answer, and the buffer afterwards
 pub record TidyOutcome : Type 0 where
-  pub tidied : Tidied
+  pub tidied : Result ℕ Refusal
   pub to : List ℕ
 
-abbrev pub tidy_outcome : Tidied → List ℕ → TidyOutcome
+abbrev pub tidy_outcome : Result ℕ Refusal → List ℕ → TidyOutcome
 tidy_outcome x to = record { tidied = x; to = to }
 
 -- a form of this length in a buffer: "29 when the tidy form does not fit the lent buffer .., buffer untouched", else it is the buffer's first bytes
-abbrev pub placed : List ℕ → List ℕ → Tidied → TidyOutcome
-placed form to (T.Refused why) = tidy_outcome (T.Refused why) to
-placed form to (T.Made k) = pick (ltb (length to) k) (tidy_outcome (T.Refused 29) to) (tidy_outcome (T.Made k) (form ++ drop k to))
+abbrev pub placed : List ℕ → List ℕ → Result ℕ Refusal → TidyOutcome
+placed form to (Err why) = tidy_outcome (Err why) to
+placed form to (Ok k) = pick (ltb (length to) k) (tidy_outcome (Err Refusal.TidyRoom) to) (tidy_outcome (Ok k) (form ++ drop k to))
 
 -- the tidy form of a set in a buffer
 unfoldable pub tidy_of : List ℕ → List ℕ → TidyOutcome
 tidy_of set to = placed (tidy_bytes set) to (tidy_len_of set)
 
 -- what the answer tells: an operation that accepts tells go, here with the form's length
-abbrev pub tidied_told : Tidied → Told
-tidied_told (T.Made k) = told 0 (k ∷ [])
-tidied_told (T.Refused why) = told_refused why
+abbrev pub tidied_told : Result ℕ Refusal → Told
+tidied_told (Ok k) = told 0 (k ∷ [])
+tidied_told (Err why) = told_refused why
 
 abbrev pub tidy_told : TidyOutcome → Told
 tidy_told x = tidied_told x.tidied

@@ -5,5 +5,5 @@
 #[derive(Clone, Copy)]
 pub enum Tidied {
     Made(usize),
-    Refused(u8),
+    Refused(Refusal),
 }

@@ -23,18 +23,18 @@ use slot_sizes::{MOST, data_size, size_at, slot_count, start_at};
 use tidied::Tidied;
 
 // How long the tidy form of a set is.
-pub fn tidy_len(set: &[u8]) -> Tidied
+pub fn tidy_len(set: &[u8]) -> Result<usize, Refusal>
     ensures { Tells tidied_told result (tidy_len_of set.now) }
 {
-    let Checked::Good = check_images(set) else {
-        return Tidied::Refused(28);
+    let Ok(()) = check_images(set) else {
+        return Err(Refusal::TidySet);
     };
     let n = slot_count(set);
     let size = data_size(set, n);
     if MOST < size {
-        return Tidied::Refused(29);
+        return Err(Refusal::TidyRoom);
     }
-    Tidied::Made(8 + 8 * n + size)
+    Ok(8 + 8 * n + size)
 }
 
 // Writes the starts of the first n slots.
@@ -105,24 +105,24 @@ fn put_form(to: &mut [u8], set: &[u8], n: usize, size: usize)
 }
 
 // The tidy form, which is so long: written where it fits.
-fn tidy_of(set: &[u8], to: &mut [u8], len: usize) -> Tidied
+fn tidy_of(set: &[u8], to: &mut [u8], len: usize) -> Result<usize, Refusal>
     requires { tidy_len_of set.now ≡ Tidied.Made len }
     ensures { tidy_outcome result to.new ≡ tidy_of set.now to.old }
 {
     if to.len() < len {
-        return Tidied::Refused(29);
+        return Err(Refusal::TidyRoom);
     }
     let n = slot_count(set);
     put_form(to, set, n, len - 8 - 8 * n);
-    Tidied::Made(len)
+    Ok(len)
 }
 
 // The tidy form of a set, as the first bytes of a buffer. Where it does not fit, nothing is written.
-pub fn tidy(set: &[u8], to: &mut [u8]) -> Tidied
+pub fn tidy(set: &[u8], to: &mut [u8]) -> Result<usize, Refusal>
     ensures { Tells tidy_told (tidy_outcome result to.new) (tidy_of set.now to.old) }
 {
     match tidy_len(set) {
-        Tidied::Made(len) => tidy_of(set, to, len),
-        Tidied::Refused(why) => Tidied::Refused(why),
+        Ok(len) => tidy_of(set, to, len),
+        Err(why) => Err(why),
     }
 }

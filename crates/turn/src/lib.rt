@@ -32,7 +32,7 @@ pub fn guard(s: Session, limited: bool, out: &[u8]) -> u8
 }
 
 // Refused, the session as it was and nothing taken.
-pub fn untouched(s: Session, why: u8) -> Stepped
+pub fn untouched(s: Session, why: Refusal) -> Stepped
     ensures { result ≡ gives s 0 (Answer.Refused why) }
 {
     Stepped {

@@ -17,19 +17,20 @@ use Rattle.bundle.specs.declared.Slot.{Slot}
 use Rattle.bundle.specs.declared.Slot.TheVariants.{At, Absent, Missing}
 use Rattle.bundle.proofs.Laws.{length_there}
 use Rattle.image.specs.Image.{slot_for, range_in, range_unjudged}
-use Rattle.image.specs.declared.ImageRange.{ImageRange}
-use Rattle.image.specs.declared.ImageRange.TheVariants as R
 use Rattle.two_runs.specs.Alike.{shape_in, SameShape, covered_in}
+use Rattle.std.specs.Prelude.{Result, Err, Ok}
+use Rattle.refusal.specs.declared.Refusal.{Refusal}
+use Rattle.refusal.specs.declared.Refusal.TheVariants as Refusal
 
 -- where it starts aside
-abbrev pub range_aside : ImageRange → ImageRange
-range_aside (R.At x k) = R.At 0 k
-range_aside (R.Refused why) = R.Refused why
+abbrev pub range_aside : Result (ℕ × ℕ) Refusal → Result (ℕ × ℕ) Refusal
+range_aside (Ok (x, k)) = Ok (0, k)
+range_aside (Err why) = Err why
 
 -- its bytes
-abbrev pub range_bytes : List ℕ → ImageRange → List ℕ
-range_bytes set (R.At x k) = take k (drop x set)
-range_bytes set (R.Refused why) = []
+abbrev pub range_bytes : List ℕ → Result (ℕ × ℕ) Refusal → List ℕ
+range_bytes set (Ok (x, k)) = take k (drop x set)
+range_bytes set (Err why) = []
 
 -- ---- what a read covers of an image: none where it is refused, and else the bytes that it asks for
 
@@ -46,9 +47,9 @@ module _ (s : List ℕ) (offset len : ℕ) where
 
 -- ---- of one set
 
-abbrev range_shaped : Option ℕ → ℕ → ℕ → ImageRange
-range_shaped none offset len = R.Refused 12
-range_shaped (some k) offset len = pick (leb (offset + len) k) (R.At 0 len) (R.Refused 13)
+abbrev range_shaped : Option ℕ → ℕ → ℕ → Result (ℕ × ℕ) Refusal
+range_shaped none offset len = Err Refusal.NoImage
+range_shaped (some k) offset len = pick (leb (offset + len) k) (Ok (0, len)) (Err Refusal.ImageEnd)
 
 module _ (set : List ℕ) (i offset len : ℕ) where
   range_shaped_lem : range_aside (range_in (slot_of set i) offset len) ≡ range_shaped (shape_in (content_of set i)) offset len

@@ -16,8 +16,6 @@ use Rattle.field.specs.Field.{field_size}
 use Rattle.bundle.specs.Bundle.{well_formed}
 use Rattle.entry.specs.Entry.{entry_of, filename_of, entries_in}
 use Rattle.filename.specs.Filename.{open_check, after_open_check}
-use Rattle.filename.specs.declared.NameCheck.{NameCheck}
-use Rattle.filename.specs.declared.NameCheck.TheVariants as N
 use Rattle.selection.specs.Selection.{next_of}
 use Rattle.packet.specs.Packet.{length_field, bad_length}
 use Rattle.verdict.specs.Verdict.{verdict_of}
@@ -43,6 +41,8 @@ use Rattle.fetch.specs.Device.{given_of, reports_for}
 use Rattle.two_runs.specs.Claim.{Seen, seen_of}
 use Rattle.two_runs.specs.Alike.{SameShape, made_whole, Judges, AgreeIn}
 use Rattle.two_runs.proofs.Verdict.{verdict_aside, verdict_bytes, VerdictsAlike, verdict_alike}
+use Rattle.std.specs.Prelude.{Result, Ok, Err}
+use Rattle.refusal.specs.declared.Refusal.{Refusal}
 
 -- ---- a step that judges a packet (`Judges` of specs/Alike) does what the verdict on it asks for
 
@@ -130,9 +130,9 @@ module _ (s : Session) (d t y o : List ℕ) where
     unfolding switched_of
     switched_unread k = refl
 
-    open_unread : (f k i : ℕ) (e : List ℕ) (c : NameCheck) → Steps (open_of f s k i e c)
-    open_unread f k i e N.Good = refl
-    open_unread f k i e (N.Refused why) = refl
+    open_unread : (f k i : ℕ) (e : List ℕ) (c : Result Unit Refusal) → Steps (open_of f s k i e c)
+    open_unread f k i e (Ok tt) = refl
+    open_unread f k i e (Err why) = refl
 
     between_unread : (f k from : ℕ) (names : List ℕ) → Steps (between_of f s k from names t)
     unfolding between_of
@@ -145,9 +145,9 @@ module _ (s : Session) (d t y o : List ℕ) where
       unfolding next_chunk
       next_unread = split Unread (leb x.len x.done) (λ e. refl) (λ e. refl)
 
-      begun_unread : (c : NameCheck) → Unread (begun_of s k x t y o c)
-      begun_unread N.Good = split Unread (ltb (256 ^ field_size s.width) (x.base + x.len)) (λ e. refl) (λ e. next_unread)
-      begun_unread (N.Refused why) = refl
+      begun_unread : (c : Result Unit Refusal) → Unread (begun_of s k x t y o c)
+      begun_unread (Ok tt) = split Unread (ltb (256 ^ field_size s.width) (x.base + x.len)) (λ e. refl) (λ e. next_unread)
+      begun_unread (Err why) = refl
 
       region_unread : Unread (region_of s k x d t y o)
       unfolding region_of ask_of hand_of

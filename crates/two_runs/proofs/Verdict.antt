@@ -11,21 +11,19 @@ use Rattle.base.proofs.Ranges.{by_test}
 use Rattle.base.proofs.Tests.{split}
 use Rattle.bundle.specs.Bundle.{count_of}
 use Rattle.image.specs.Image.{slot_for, range_unjudged}
-use Rattle.image.specs.declared.ImageRange.{ImageRange}
-use Rattle.image.specs.declared.ImageRange.TheVariants as R
 use Rattle.packet.specs.Packet.{decode_of}
 use Rattle.packet.specs.declared.SaharaPacketBody.{SaharaPacketBody}
 use Rattle.packet.specs.declared.SaharaPacketBody.TheVariants as B
-use Rattle.packet.specs.declared.Decoded.{Decoded}
-use Rattle.packet.specs.declared.Decoded.TheVariants as D
 use Rattle.verdict.specs.Verdict.{exactly, image_for, execute_for, room, on_body, on_decoded, verdict_of}
-use Rattle.verdict.specs.declared.ExecCommand.{ExecCommand}
-use Rattle.verdict.specs.declared.ExecCommand.TheVariants as X
 use Rattle.verdict.specs.declared.Opening.{Opening}
 use Rattle.verdict.specs.declared.Verdict.{Verdict}
 use Rattle.verdict.specs.declared.Verdict.TheVariants as W
 use Rattle.two_runs.specs.Alike.{SameShape, image_read, read_by, read_in, covered, covered_of}
 use Rattle.two_runs.proofs.Range.{range_aside, range_bytes, range_covered, ranges_aside}
+use Rattle.std.specs.Prelude.{Option, Some, None, Result, Ok, Err}
+use Rattle.refusal.specs.declared.Refusal.{Refusal}
+use Rattle.packet.specs.declared.SaharaPacket.{SaharaPacket}
+use Rattle.command.specs.declared.SaharaCmdModeCmd.{SaharaCmdModeCmd}
 
 -- where an image starts aside
 abbrev pub verdict_aside : Verdict → Verdict
@@ -52,13 +50,13 @@ pub record VerdictsAlike (a b : List ℕ) (v v' : Verdict) : Type 0 where
   pub bytes : verdict_bytes a v ≡ verdict_bytes b v'
 
 -- an image range's
-image_aside : (r : ImageRange) → verdict_aside (image_for r) ≡ image_for (range_aside r)
-image_aside (R.At x k) = refl
-image_aside (R.Refused why) = refl
+image_aside : (r : Result (ℕ × ℕ) Refusal) → verdict_aside (image_for r) ≡ image_for (range_aside r)
+image_aside (Ok (x, k)) = refl
+image_aside (Err why) = refl
 
-image_bytes : (set : List ℕ) (r : ImageRange) → verdict_bytes set (image_for r) ≡ range_bytes set r
-image_bytes set (R.At x k) = refl
-image_bytes set (R.Refused why) = refl
+image_bytes : (set : List ℕ) (r : Result (ℕ × ℕ) Refusal) → verdict_bytes set (image_for r) ≡ range_bytes set r
+image_bytes set (Ok (x, k)) = refl
+image_bytes set (Err why) = refl
 
 -- ---- the bytes of a packet's verdict are those that the packet covers: no more and no fewer, whatever the set
 
@@ -76,9 +74,9 @@ module _ (set : List ℕ) where
     abbrev Bare : Verdict → Type 0
     Bare v = verdict_bytes set v ≡ []
 
-    execute_bare : (c : ExecCommand) → Bare (execute_for c)
-    execute_bare (X.Is c) = refl
-    execute_bare X.None = refl
+    execute_bare : (c : Option SaharaCmdModeCmd) → Bare (execute_for c)
+    execute_bare (Some c) = refl
+    execute_bare None = refl
 
     body_covered : (len : ℕ) (x : SaharaPacketBody) → verdict_bytes set (on_body u set tsize rsize len x) ≡ covered set (read_by len x)
     body_covered len (B.HelloReq x) = split Bare (eqb len 48) (λ t. refl) (λ t. refl)
@@ -99,9 +97,9 @@ module _ (set : List ℕ) where
     body_covered len (B.ReadMem64Req x) = refl
     body_covered len (B.ReadData64Req x) = read_covered 32 len x.image x.offset x.len
 
-    decoded_covered : (x : Decoded) → verdict_bytes set (on_decoded u set tsize rsize x) ≡ covered set (read_in x)
-    decoded_covered (D.Is p) = body_covered p.len p.body
-    decoded_covered (D.Refused why) = refl
+    decoded_covered : (x : Result SaharaPacket Refusal) → verdict_bytes set (on_decoded u set tsize rsize x) ≡ covered set (read_in x)
+    decoded_covered (Ok p) = body_covered p.len p.body
+    decoded_covered (Err why) = refl
 
     pub verdict_covered : (p : List ℕ) → verdict_bytes set (verdict_of u set tsize rsize p) ≡ covered_of set p
     unfolding verdict_of covered_of
@@ -140,9 +138,9 @@ module _ (a b : List ℕ) (same : SameShape a b) (u : Opening) (tsize rsize : �
   body_aside len (B.ReadMem64Req x) = refl
   body_aside len (B.ReadData64Req x) = read_aside 32 len x.image x.offset x.len
 
-  decoded_aside : (x : Decoded) → verdict_aside (on_decoded u a tsize rsize x) ≡ verdict_aside (on_decoded u b tsize rsize x)
-  decoded_aside (D.Is p) = body_aside p.len p.body
-  decoded_aside (D.Refused why) = refl
+  decoded_aside : (x : Result SaharaPacket Refusal) → verdict_aside (on_decoded u a tsize rsize x) ≡ verdict_aside (on_decoded u b tsize rsize x)
+  decoded_aside (Ok p) = body_aside p.len p.body
+  decoded_aside (Err why) = refl
 
   pub verdict_alike : (p : List ℕ) → covered_of a p ≡ covered_of b p
       → VerdictsAlike a b (verdict_of u a tsize rsize p) (verdict_of u b tsize rsize p)

@@ -2,7 +2,7 @@
 -- alike is a law (`runs_alike` of proofs/Theorem); a set and its tidy form agree on every byte. What a read covers is said of the decoded packet: image ID,
 -- offset and length, as document 01, "Images", has them. It is just what the step gives: `judged` of proofs/Step, `verdict_covered` of proofs/Verdict. (The
 -- words are those of document 02, request 12, of which nothing is claimed here.)
-use Rattle.std.specs.Prelude.{ℕ, ◌+◌, ◌-◌, min, ◌≡◌, List, [], ltb, leb, eqb, length, take, drop}
+use Rattle.std.specs.Prelude.{ℕ, ◌+◌, ◌-◌, min, ◌≡◌, List, [], ltb, leb, eqb, length, take, drop, Result, Ok, Err}
 use Rattle.std.proofs.Math.Option.{Option, none, some}
 use Rattle.base.specs.Choice.{pick}
 use Rattle.bundle.specs.Bundle.{count_of}
@@ -11,14 +11,14 @@ use Rattle.image.specs.Image.{slot_for}
 use Rattle.packet.specs.Packet.{decode_of, length_field, bad_length}
 use Rattle.packet.specs.declared.SaharaPacketBody.{SaharaPacketBody}
 use Rattle.packet.specs.declared.SaharaPacketBody.TheVariants as B
-use Rattle.packet.specs.declared.Decoded.{Decoded}
-use Rattle.packet.specs.declared.Decoded.TheVariants as D
 use Rattle.session.specs.declared.Phase.TheVariants as P
 use Rattle.session.specs.declared.Session.{Session}
 use Rattle.session.specs.PacketPhase.{keep}
 use Rattle.waiting.specs.Waiting.{InOrder}
 use Rattle.fetch.specs.Plain.{Setting}
 use Rattle.fetch.specs.Device.{own, Lent, lent, delivered, World}
+use Rattle.refusal.specs.declared.Refusal.{Refusal}
+use Rattle.packet.specs.declared.SaharaPacket.{SaharaPacket}
 
 -- ---- the shape of a set
 
@@ -61,9 +61,9 @@ read_by len (B.Debug64Req b) = none
 read_by len (B.ReadMem64Req b) = none
 read_by len (B.ReadData64Req b) = pick (eqb len 32) (some (image_read b.image b.offset b.len)) none
 
-abbrev pub read_in : Decoded → Option ImageRead
-read_in (D.Is p) = read_by p.len p.body
-read_in (D.Refused why) = none
+abbrev pub read_in : Result SaharaPacket Refusal → Option ImageRead
+read_in (Ok p) = read_by p.len p.body
+read_in (Err why) = none
 
 -- the bytes of an image from an offset on, so many, where they lie within it; else the read is refused (12, 13) and covers none
 abbrev pub covered_in : Content → ℕ → ℕ → List ℕ

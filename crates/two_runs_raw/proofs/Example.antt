@@ -14,9 +14,7 @@ use Rattle.packet.specs.Packet.{kind_of, decode_of}
 use Rattle.writer.specs.Writer.{data_of, starts_from, bundle_bytes}
 use Rattle.tidied.specs.Tidy.{first_contents, tidy_len_of, tidy_outcome, tidy_of}
 use Rattle.tidied.specs.Claim.{TidyForm}
-use Rattle.tidied.specs.declared.Tidied.TheVariants as T
 use Rattle.verdict.specs.Verdict.{verdict_of}
-use Rattle.verdict.specs.declared.ExecCommand.TheVariants as X
 use Rattle.verdict.specs.declared.QdlBackend.TheVariants as U
 use Rattle.session.specs.declared.Answer.{Answer}
 use Rattle.session.specs.declared.Answer.TheVariants as A
@@ -30,6 +28,8 @@ use Rattle.fetch_raw.proofs.Example.{by_turns}
 use Rattle.two_runs.specs.Claim.{Seen, seen_in, with_set, RunsAlike}
 use Rattle.two_runs.proofs.Theorem.{serves_alike}
 use Rattle.two_runs_raw.proofs.Raw.{serves_alike_raw}
+use Rattle.std.specs.Prelude.{None, Ok}
+use Rattle.refusal.specs.declared.Refusal.TheVariants as Refusal
 
 abbrev pub mark : ℕ
 mark = 0xFFFFFFFF
@@ -44,7 +44,7 @@ form = words (2 ∷ 4 ∷ 0 ∷ mark ∷ 4 ∷ 0 ∷ []) ++ 65 ∷ 66 ∷ 67 ∷
 abbrev dropped : List ℕ
 dropped = words (1 ∷ 4 ∷ 0 ∷ 4 ∷ []) ++ 65 ∷ 66 ∷ 67 ∷ 68 ∷ []
 
-set_tidied : tidy_of set (replicate 30 7) ≡ tidy_outcome (T.Made 28) (form ++ 7 ∷ 7 ∷ [])
+set_tidied : tidy_of set (replicate 30 7) ≡ tidy_outcome (Ok 28) (form ++ 7 ∷ 7 ∷ [])
 unfolding tidy_of tidy_len_of well_formed slots_good slot_of le le_bytes fields first_contents data_of starts_from bundle_bytes
 set_tidied = refl
 
@@ -58,7 +58,7 @@ is_form =
 abbrev pub setting : Setting
 setting =
     record {
-      opening = record { mode = M.WaitingForImage; command = X.None; backend = U.Serial };
+      opening = record { mode = M.WaitingForImage; command = None; backend = U.Serial };
       set = set;
       names = replicate 8 0;
       table = [];
@@ -84,7 +84,7 @@ answers = map (λ x. x.given.answer)
 abbrev pub reported : {S : Type 0} → List (Seen S) → List (List Report)
 reported = map (λ x. x.reports)
 
-served : answers (seen_in definitions setting (start definitions setting) steps) ≡ A.Image 0 4 ∷ A.Go ∷ A.Refused 12 ∷ []
+served : answers (seen_in definitions setting (start definitions setting) steps) ≡ A.Image 0 4 ∷ A.Go ∷ A.Refused Refusal.NoImage ∷ []
 unfolding step_of limit_of packet_of sized_of whole_of verdict_of decode_of class_of kinds kind_of well_formed slots_good slot_of le le_bytes fields
 served = refl
 
@@ -97,7 +97,7 @@ reports = refl
 alike : RunsAlike definitions setting form (start definitions setting) steps
 alike = serves_alike setting form is_form (start definitions setting) steps
 
-form_served : answers (seen_in definitions (with_set setting form) (start definitions setting) steps) ≡ A.Image 0 4 ∷ A.Go ∷ A.Refused 12 ∷ []
+form_served : answers (seen_in definitions (with_set setting form) (start definitions setting) steps) ≡ A.Image 0 4 ∷ A.Go ∷ A.Refused Refusal.NoImage ∷ []
 form_served = ap answers (sym alike.steps) ∙ served
 
 form_reports : reported (seen_in definitions (with_set setting form) (start definitions setting) steps) ≡ (image (65 ∷ 66 ∷ 67 ∷ 68 ∷ []) ∷ []) ∷ [] ∷ [] ∷ []
@@ -109,13 +109,13 @@ alike_raw = serves_alike_raw by_turns setting form is_form (start (calling by_tu
 
 -- ---- from one slot: the DoneResp finishes, so the run is another
 
-dropped_served : answers (seen_in definitions (with_set setting dropped) (start definitions setting) steps) ≡ A.Image 0 4 ∷ A.Finished 1 0 ∷ A.Refused 4 ∷ []
+dropped_served : answers (seen_in definitions (with_set setting dropped) (start definitions setting) steps) ≡ A.Image 0 4 ∷ A.Finished 1 0 ∷ A.Refused Refusal.Ended ∷ []
 unfolding step_of limit_of packet_of sized_of whole_of verdict_of decode_of class_of kinds kind_of well_formed slots_good slot_of le le_bytes fields
 dropped_served = refl
 
 pub dropped_differs : RunsAlike definitions setting dropped (start definitions setting) steps → ⊥
 dropped_differs x =
-    let e : A.Image 0 4 ∷ A.Go ∷ A.Refused 12 ∷ [] ≡ A.Image 0 4 ∷ A.Finished 1 0 ∷ A.Refused 4 ∷ [] =
+    let e : A.Image 0 4 ∷ A.Go ∷ A.Refused Refusal.NoImage ∷ [] ≡ A.Image 0 4 ∷ A.Finished 1 0 ∷ A.Refused Refusal.Ended ∷ [] =
     sym served ∙ ap answers x.steps ∙ dropped_served in
     let z : ◌≡◌ {A = ℕ} 0 1 = cc in
     omega arith
@@ -124,11 +124,11 @@ dropped_differs x =
 abbrev another_id : List Lent
 another_id = step (read 1 0 4) ∷ []
 
-refused_alone : answers (seen_in definitions setting (start definitions setting) another_id) ≡ A.Refused 12 ∷ []
+refused_alone : answers (seen_in definitions setting (start definitions setting) another_id) ≡ A.Refused Refusal.NoImage ∷ []
 unfolding step_of limit_of packet_of sized_of whole_of verdict_of decode_of class_of kinds kind_of well_formed slots_good slot_of le le_bytes fields
 refused_alone = refl
 
-form_refused : answers (seen_in definitions (with_set setting form) (start definitions setting) another_id) ≡ A.Refused 12 ∷ []
+form_refused : answers (seen_in definitions (with_set setting form) (start definitions setting) another_id) ≡ A.Refused Refusal.NoImage ∷ []
 form_refused = ap answers (sym (serves_alike setting form is_form (start definitions setting) another_id).steps) ∙ refused_alone
 
 dropped_serves : answers (seen_in definitions (with_set setting dropped) (start definitions setting) another_id) ≡ A.Image 0 4 ∷ []

@@ -7,10 +7,10 @@ use std::io::Write;
 use tidied::Tidied;
 use tidy::{tidy, tidy_len};
 
-fn checked<W: Write>(to: &mut W, c: Checked) -> io::Result<()> {
+fn checked<W: Write>(to: &mut W, c: Result<(), Refusal>) -> io::Result<()> {
     match c {
-        Checked::Good => show::good(to),
-        Checked::Refused(k) => show::refused(to, k),
+        Ok(()) => show::good(to),
+        Err(k) => show::refused(to, k),
     }
 }
 
@@ -43,15 +43,15 @@ pub(crate) fn range<W: Write>(to: &mut W, line: &[u8]) -> io::Result<()> {
     let offset = text::long(line, 3);
     let len = text::long(line, 4);
     match image_range(&set[..n], id, offset, len) {
-        ImageRange::At(start, count) => at(to, start, count),
-        ImageRange::Refused(k) => show::refused(to, k),
+        Ok((start, count)) => at(to, start, count),
+        Err(k) => show::refused(to, k),
     }
 }
 
-fn tidied<W: Write>(to: &mut W, t: Tidied) -> io::Result<()> {
+fn tidied<W: Write>(to: &mut W, t: Result<usize, Refusal>) -> io::Result<()> {
     match t {
-        Tidied::Made(k) => show::number(to, k),
-        Tidied::Refused(why) => show::refused(to, why),
+        Ok(k) => show::number(to, k),
+        Err(why) => show::refused(to, why),
     }
 }
 

@@ -41,7 +41,7 @@ fn hello_req<W: Write>(to: &mut W, h: HelloReq) -> io::Result<()> {
     let mode = h.mode;
     let unk = h.unk;
     show::three_words(to, h.ver, h.compatible, h.max_len)?;
-    show::word(to, mode_number(mode))?;
+    show::word(to, u32::from(mode))?;
     six_words(to, unk)
 }
 
@@ -49,19 +49,19 @@ fn hello_resp<W: Write>(to: &mut W, h: HelloResp) -> io::Result<()> {
     let mode = h.mode;
     let unk = h.unk;
     show::three_words(to, h.ver, h.compatible, h.status)?;
-    show::word(to, mode_number(mode))?;
+    show::word(to, u32::from(mode))?;
     six_words(to, unk)
 }
 
 fn exec_resp<W: Write>(to: &mut W, e: ExecResp) -> io::Result<()> {
     let command = e.command;
-    show::word(to, command_number(command))?;
+    show::word(to, u32::from(command))?;
     show::word(to, e.len)
 }
 
 fn exec_data<W: Write>(to: &mut W, e: ExecData) -> io::Result<()> {
     let command = e.command;
-    show::word(to, command_number(command))
+    show::word(to, u32::from(command))
 }
 
 // The fields of a body, in document 01's order.
@@ -91,7 +91,7 @@ fn fields<W: Write>(to: &mut W, body: SaharaPacketBody) -> io::Result<()> {
 fn packet<W: Write>(to: &mut W, p: SaharaPacket) -> io::Result<()> {
     let body = p.body;
     show::text(to, b"packet")?;
-    show::word(to, kind_number(kind_of(body)))?;
+    show::word(to, u32::from(kind_of(body)))?;
     show::word(to, p.len)?;
     fields(to, body)
 }
@@ -101,16 +101,16 @@ pub(crate) fn decode<W: Write>(to: &mut W, line: &[u8]) -> io::Result<()> {
     let mut p = [0u8; 1024];
     let n = text::bytes(line, 1, &mut p);
     match sahara_parse_packet(&p[..n]) {
-        Decoded::Is(d) => packet(to, d),
-        Decoded::Refused(k) => show::refused(to, k),
+        Ok(d) => packet(to, d),
+        Err(k) => show::refused(to, k),
     }
 }
 
 // l LENGTH
 pub(crate) fn length<W: Write>(to: &mut W, line: &[u8]) -> io::Result<()> {
     match sahara_read_packet_length(text::number(line, 1)) {
-        LengthCheck::Good => show::good(to),
-        LengthCheck::Refused(k) => show::refused(to, k),
+        Ok(()) => show::good(to),
+        Err(k) => show::refused(to, k),
     }
 }
 
@@ -121,31 +121,31 @@ fn sent<W: Write>(to: &mut W, k: usize) -> io::Result<()> {
 
 fn built<W: Write>(to: &mut W, out: &mut [u8], q: Request) -> io::Result<()> {
     match build(out, q) {
-        Built::Send(k) => sent(to, k)?,
-        Built::Refused(k) => show::refused(to, k)?,
+        Ok(k) => sent(to, k)?,
+        Err(k) => show::refused(to, k)?,
     }
     show::text(to, b" ")?;
     show::bytes(to, out)
 }
 
 fn build_hello<W: Write>(to: &mut W, line: &[u8], out: &mut [u8]) -> io::Result<()> {
-    match mode_of(text::number(line, 3)) {
-        ModeOf::Is(m) => built(to, out, Request::HelloResp(m)),
-        ModeOf::Bad => show::nothing(to),
+    match SaharaMode::try_from(text::number(line, 3)) {
+        Ok(m) => built(to, out, Request::HelloResp(m)),
+        Err(_) => show::nothing(to),
     }
 }
 
 fn build_execute<W: Write>(to: &mut W, line: &[u8], out: &mut [u8]) -> io::Result<()> {
-    match command_of(text::number(line, 3)) {
-        CommandOf::Is(c) => built(to, out, Request::Execute(c)),
-        CommandOf::Bad => show::nothing(to),
+    match SaharaCmdModeCmd::try_from(text::number(line, 3)) {
+        Ok(c) => built(to, out, Request::Execute(c)),
+        Err(_) => show::nothing(to),
     }
 }
 
 fn build_execute_data<W: Write>(to: &mut W, line: &[u8], out: &mut [u8]) -> io::Result<()> {
-    match command_of(text::number(line, 3)) {
-        CommandOf::Is(c) => built(to, out, Request::ExecuteData(c)),
-        CommandOf::Bad => show::nothing(to),
+    match SaharaCmdModeCmd::try_from(text::number(line, 3)) {
+        Ok(c) => built(to, out, Request::ExecuteData(c)),
+        Err(_) => show::nothing(to),
     }
 }
 

@@ -30,10 +30,10 @@ pub(crate) fn stem<W: Write>(to: &mut W, line: &[u8]) -> io::Result<()> {
     front(to, &name[..n], k)
 }
 
-fn name_check<W: Write>(to: &mut W, c: NameCheck) -> io::Result<()> {
+fn name_check<W: Write>(to: &mut W, c: Result<(), Refusal>) -> io::Result<()> {
     match c {
-        NameCheck::Good => show::good(to),
-        NameCheck::Refused(k) => show::refused(to, k),
+        Ok(()) => show::good(to),
+        Err(k) => show::refused(to, k),
     }
 }
 
@@ -114,8 +114,8 @@ pub(crate) fn next<W: Write>(to: &mut W, line: &[u8]) -> io::Result<()> {
 
 fn sheet_into<W: Write>(to: &mut W, table: &[u8], width: Width, page: &mut [u8]) -> io::Result<()> {
     match region_sheet(table, width, page) {
-        Sheet::Made(k) => show::number(to, k)?,
-        Sheet::Refused(why) => show::refused(to, why)?,
+        Ok(k) => show::number(to, k)?,
+        Err(why) => show::refused(to, why)?,
     }
     show::text(to, b" ")?;
     show::bytes(to, page)

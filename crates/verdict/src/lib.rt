@@ -35,7 +35,7 @@ pub enum ExecCommand {
 #[derive(Clone, Copy)]
 pub struct Opening {
     pub mode: SaharaMode,
-    pub command: ExecCommand,
+    pub command: Option<SaharaCmdModeCmd>,
     pub backend: QdlBackend,
 }
 
@@ -53,7 +53,7 @@ pub enum Verdict {
     Respond(SaharaCmdModeCmd, usize),
     // the table, of this width, stands at this address and has so many bytes
     Debug(Width, u64, u64),
-    Refused(u8),
+    Refused(Refusal),
 }
 
 // A hello is answered with the session's mode.
@@ -61,7 +61,7 @@ pub fn on_hello(mode: SaharaMode, len: u32) -> Verdict
     ensures { result ≡ exactly len 48 (Verdict.Reply (Request.HelloResp mode)) }
 {
     if len != 48 {
-        return Verdict::Refused(11);
+        return Verdict::Refused(Refusal::KindLength);
     }
     Verdict::Reply(Request::HelloResp(mode))
 }
@@ -71,11 +71,11 @@ pub fn on_read(set: &[u8], len: u32, exact: u32, image: u64, offset: u64, count:
     ensures { result ≡ exactly len exact (image_for (range_unjudged set.now image offset count)) }
 {
     if len != exact {
-        return Verdict::Refused(11);
+        return Verdict::Refused(Refusal::KindLength);
     }
     match image_range_unjudged(set, ImageId(image), offset, count) {
-        ImageRange::At(start, k) => Verdict::Image(start, k),
-        ImageRange::Refused(why) => Verdict::Refused(why),
+        Ok((start, k)) => Verdict::Image(start, k),
+        Err(why) => Verdict::Refused(why),
     }
 }
 
@@ -83,10 +83,10 @@ pub fn on_eoi(len: u32, status: u32) -> Verdict
     ensures { result ≡ exactly len 16 (end_for status) }
 {
     if len != 16 {
-        return Verdict::Refused(11);
+        return Verdict::Refused(Refusal::KindLength);
     }
     if status != 0 {
-        return Verdict::Refused(14);
+        return Verdict::Refused(Refusal::ImageStatus);
     }
     Verdict::Reply(Request::Done)
 }
@@ -107,20 +107,20 @@ pub fn on_reset_resp(len: u32) -> Verdict
     ensures { result ≡ exactly len 8 (Verdict.Finish 2) }
 {
     if len != 8 {
-        return Verdict::Refused(11);
+        return Verdict::Refused(Refusal::KindLength);
     }
     Verdict::Finish(2)
 }
 
-pub fn on_command_ready(command: ExecCommand, len: u32) -> Verdict
+pub fn on_command_ready(command: Option<SaharaCmdModeCmd>, len: u32) -> Verdict
     ensures { result ≡ exactly len 8 (execute_for command) }
 {
     if len != 8 {
-        return Verdict::Refused(11);
+        return Verdict::Refused(Refusal::KindLength);
     }
     match command {
-        ExecCommand::Is(c) => Verdict::Reply(Request::Execute(c)),
-        ExecCommand::None => Verdict::Refused(15),
+        Some(c) => Verdict::Reply(Request::Execute(c)),
+        None => Verdict::Refused(Refusal::NoCommand),
     }
 }
 
@@ -129,7 +129,7 @@ pub fn on_exec_resp(rsize: usize, command: SaharaCmdModeCmd, count: u32) -> Verd
 {
     let k = count as usize;
     if rsize < k {
-        return Verdict::Refused(16);
+        return Verdict::Refused(Refusal::ResponseLength);
     }
     Verdict::Respond(command, k)
 }
@@ -139,13 +139,13 @@ pub fn on_debug(tsize: usize, width: Width, len: u32, exact: u32, addr: u64, cou
     ensures { result ≡ exactly len exact (table_for tsize width addr count) }
 {
     if len != exact {
-        return Verdict::Refused(11);
+        return Verdict::Refused(Refusal::KindLength);
     }
     if 65536 < count {
-        return Verdict::Refused(17);
+        return Verdict::Refused(Refusal::TableLength);
     }
     if tsize < count as usize {
-        return Verdict::Refused(17);
+        return Verdict::Refused(Refusal::TableLength);
     }
     Verdict::Debug(width, addr, count)
 }

@@ -13,7 +13,6 @@ use Rattle.command.specs.declared.SaharaMode.TheVariants as M
 use Rattle.packet.specs.Packet.{kind_of, decode_of}
 use Rattle.verdict.specs.Verdict.{verdict_of}
 use Rattle.verdict.specs.declared.QdlBackend.TheVariants as U
-use Rattle.verdict.specs.declared.ExecCommand.TheVariants as X
 use Rattle.verdict.specs.declared.Opening.{Opening}
 use Rattle.session.specs.declared.Phase.{Phase}
 use Rattle.session.specs.declared.Phase.TheVariants as P
@@ -28,9 +27,10 @@ use Rattle.waiting.specs.Waiting.{InOrder}
 use Rattle.waiting.specs.Window.{packet_over, StepLent}
 use Rattle.waiting.proofs.Waiting.{waits, waits_only, wanted_needs, takes_all}
 use Rattle.waiting.proofs.Window.{completes_whole, after, holds_run, judged_whole}
+use Rattle.std.specs.Prelude.{None}
 
 abbrev debugging : Opening
-debugging = record { mode = M.MemoryDebug; command = X.None; backend = U.Usb }
+debugging = record { mode = M.MemoryDebug; command = None; backend = U.Usb }
 
 -- a session in the phase p, its window zeros
 abbrev at : Phase → Session

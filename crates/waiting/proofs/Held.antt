@@ -14,8 +14,6 @@ use Rattle.base.proofs.Ranges.{by_test}
 use Rattle.bundle.specs.Bundle.{well_formed}
 use Rattle.entry.specs.Entry.{entry_of, filename_of, entries_in}
 use Rattle.filename.specs.Filename.{open_check, after_open_check}
-use Rattle.filename.specs.declared.NameCheck.{NameCheck}
-use Rattle.filename.specs.declared.NameCheck.TheVariants as N
 use Rattle.selection.specs.Selection.{next_of}
 use Rattle.packet.specs.Packet.{length_field, bad_length}
 use Rattle.verdict.specs.Verdict.{verdict_of}
@@ -38,6 +36,8 @@ use Rattle.waiting.specs.Window.{FreshIn, held_after, HoldsBytes, packet_over}
 use Rattle.base.proofs.Tests.{split, and_false}
 use Rattle.waiting.proofs.Waiting.{eight_or_more}
 use Rattle.waiting.proofs.Packet.{header, over}
+use Rattle.std.specs.Prelude.{Result, Ok, Err}
+use Rattle.refusal.specs.declared.Refusal.{Refusal}
 
 -- less than 8 bytes, and less than a good length
 few_within : (w : List ℕ) (h : ℕ) → h < 8 → held_limit w h ≡ false
@@ -115,17 +115,17 @@ module _ (s : Session) (b d set names t y o : List ℕ) (g : HoldsBytes s b) whe
 
   -- ---- the other phases leave the window as it is
 
-  open_holds : (k i : ℕ) (e : List ℕ) (c : NameCheck) → Keeps (outcome (open_of (field_size s.width) s k i e c) t y o)
-  open_holds k i e N.Good = free _ 0 refl g.size tt
-  open_holds k i e (N.Refused why) = free _ 0 refl g.size tt
+  open_holds : (k i : ℕ) (e : List ℕ) (c : Result Unit Refusal) → Keeps (outcome (open_of (field_size s.width) s k i e c) t y o)
+  open_holds k i e (Ok tt) = free _ 0 refl g.size tt
+  open_holds k i e (Err why) = free _ 0 refl g.size tt
 
   next_holds : (k : ℕ) (x : Region) → Keeps (next_chunk s k x t y o)
   unfolding next_chunk
   next_holds k x = split Keeps (leb x.len x.done) (λ e. free _ 0 refl g.size tt) (λ e. free _ 0 refl g.size tt)
 
-  begun_holds : (k : ℕ) (x : Region) (c : NameCheck) → Keeps (begun_of s k x t y o c)
-  begun_holds k x N.Good = split Keeps (ltb (256 ^ field_size s.width) (x.base + x.len)) (λ e. free _ 0 refl g.size tt) (λ e. next_holds k x)
-  begun_holds k x (N.Refused why) = free _ 0 refl g.size tt
+  begun_holds : (k : ℕ) (x : Region) (c : Result Unit Refusal) → Keeps (begun_of s k x t y o c)
+  begun_holds k x (Ok tt) = split Keeps (ltb (256 ^ field_size s.width) (x.base + x.len)) (λ e. free _ 0 refl g.size tt) (λ e. next_holds k x)
+  begun_holds k x (Err why) = free _ 0 refl g.size tt
 
   region_holds : (k : ℕ) (x : Region) → Keeps (region_of s k x d t y o)
   unfolding region_of ask_of hand_of

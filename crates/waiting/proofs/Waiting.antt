@@ -17,8 +17,6 @@ use Rattle.base.proofs.Ranges.{by_test}
 use Rattle.bundle.specs.Bundle.{well_formed}
 use Rattle.entry.specs.Entry.{entry_of, filename_of, entries_in}
 use Rattle.filename.specs.Filename.{open_check, after_open_check}
-use Rattle.filename.specs.declared.NameCheck.{NameCheck}
-use Rattle.filename.specs.declared.NameCheck.TheVariants as N
 use Rattle.selection.specs.Selection.{next_of}
 use Rattle.packet.specs.Packet.{length_field, bad_length}
 use Rattle.verdict.specs.Verdict.{verdict_of}
@@ -43,6 +41,8 @@ use Rattle.waiting.specs.Wanted.{region_waits, needs_bytes, wanted_in, wanted_of
 use Rattle.limits.proofs.Laws.{same_ltb}
 use Rattle.waiting.specs.Waiting.{InOrder}
 use Rattle.field.proofs.Laws.{le_same}
+use Rattle.std.specs.Prelude.{Result, Ok, Err}
+use Rattle.refusal.specs.declared.Refusal.{Refusal}
 
 -- ---- the window
 
@@ -156,9 +156,9 @@ other a f e = let z : ◌≡◌ {A = ℕ} 0 1 = f e in omega arith
 
 module _ (s : Session) (set names t y o : List ℕ) where
   -- between regions
-  open_other : (k i : ℕ) (e : List ℕ) (c : NameCheck) → Other (open_of (field_size s.width) s k i e c)
-  open_other k i e N.Good = (refl, other _ (λ q. cc))
-  open_other k i e (N.Refused why) = (refl, other _ (λ q. cc))
+  open_other : (k i : ℕ) (e : List ℕ) (c : Result Unit Refusal) → Other (open_of (field_size s.width) s k i e c)
+  open_other k i e (Ok tt) = (refl, other _ (λ q. cc))
+  open_other k i e (Err why) = (refl, other _ (λ q. cc))
 
   between_other : (k i : ℕ) → Other (between_of (field_size s.width) s k i names t)
   unfolding between_of
@@ -175,9 +175,9 @@ module _ (s : Session) (set names t y o : List ℕ) where
   unfolding next_chunk
   next_other k x = split Asks (leb x.len x.done) (λ e. (refl, other _ (λ q. cc))) (λ e. (refl, other _ (λ q. cc)))
 
-  begun_other : (k : ℕ) (x : Region) (c : NameCheck) → Asks (begun_of s k x t y o c)
-  begun_other k x N.Good = split Asks (ltb (256 ^ field_size s.width) (x.base + x.len)) (λ e. (refl, other _ (λ q. cc))) (λ e. next_other k x)
-  begun_other k x (N.Refused why) = (refl, other _ (λ q. cc))
+  begun_other : (k : ℕ) (x : Region) (c : Result Unit Refusal) → Asks (begun_of s k x t y o c)
+  begun_other k x (Ok tt) = split Asks (ltb (256 ^ field_size s.width) (x.base + x.len)) (λ e. (refl, other _ (λ q. cc))) (λ e. next_other k x)
+  begun_other k x (Err why) = (refl, other _ (λ q. cc))
 
   ask_other : (k : ℕ) (x : Region) → Asks (ask_of s k x t y o)
   unfolding ask_of

@@ -13,6 +13,7 @@ use Rattle.session.specs.Outcome.{held_in, opened_with, holding, ended, Outcome,
 use Rattle.session.specs.PacketPhase.{keep, acted}
 use Rattle.session.specs.Limits.{held_limit}
 use Rattle.session.specs.Step.{step_of}
+use Rattle.refusal.specs.declared.Refusal.TheVariants as Refusal
 
 -- the bytes held after a step with delivery d that took n and came to the session z, b having been held before: b and what was taken, or none where
 -- none are held
@@ -44,7 +45,7 @@ packet_over s b d set t y o =
     let n = length_field p - length b in
     let more = outcome (gives (holding s (keep s.window (length b) d) (P.Packet (length p))) (length d) A.Go) t y o in
     pick (ltb (length p) 8) more
-    (pick (bad_length (length_field p)) (outcome (gives (ended s) (8 - length b) (A.Refused 5)) t y o)
+    (pick (bad_length (length_field p)) (outcome (gives (ended s) (8 - length b) (A.Refused Refusal.PacketLength)) t y o)
     (pick (ltb (length p) (length_field p)) more
     (acted s n (keep s.window (length b) (take n d)) t y o
     (verdict_of s.opening set (length t) (length y) (take (length_field p) p)))))

@@ -1,6 +1,6 @@
 -- What crosses to C and is told by no other crate: entries, the next selected one and the region sheet by a width that is a number (document 02, requests 2
 -- and 4), the tidy form of an image set (its request 6), and the reset packet, built alone (document 01, "Building").
-use Rattle.std.specs.Prelude.{ℕ, ◌+◌, ◌-◌, List}
+use Rattle.std.specs.Prelude.{ℕ, ◌+◌, ◌-◌, List, Ok}
 use Rattle.base.specs.Choice.{pick}
 use Rattle.field.specs.Field.{field_size}
 use Rattle.entry.specs.Entry.{missing, entry_at}
@@ -13,7 +13,6 @@ use Rattle.raw_records.specs.Records.{built_number, raw_sheet, raw_tidied}
 use Rattle.raw_records.specs.declared.RawSheet.{RawSheet}
 use Rattle.raw_records.specs.declared.RawTidied.{RawTidied}
 use Rattle.sheet.specs.Sheet.{SheetOutcome, sheet_outcome, sheet_of}
-use Rattle.sheet.specs.declared.Sheet.TheVariants as S
 use Rattle.tidied.specs.Tidy.{TidyOutcome}
 
 -- entry i of a table; of a number that is no width there is none
@@ -27,7 +26,7 @@ next_raw t n entries names from =
 
 -- the region sheet; of a number that is no width there is no entry, and nothing is written
 unfoldable pub sheet_raw : List ℕ → ℕ → List ℕ → SheetOutcome
-sheet_raw t n p = pick (is_width n) (sheet_of (field_size (width_of n)) t p) (sheet_outcome (S.Made 0) p)
+sheet_raw t n p = pick (is_width n) (sheet_of (field_size (width_of n)) t p) (sheet_outcome (Ok 0) p)
 
 -- an answer's numbers, and the page afterwards
 pub record PageOutcome : Type 0 where

@@ -221,7 +221,7 @@ pub extern "C" fn worgesli_region_sheet(table: &[u8], width: u64, page: &mut [u8
     ensures { page_outcome result page.new ≡ crossed (sheet_raw table.now width page.old) }
 {
     if !raw::is_width(width) {
-        return raw_records::raw_sheet(Sheet::Made(0));
+        return raw_records::raw_sheet(Ok(0));
     }
     raw_records::raw_sheet(region_sheet(table, raw::width_of(width), page))
 }

@@ -17,4 +17,4 @@ unfolding bytes_of fields le_bytes
 returns c =
     let w = c in
     builds (Q.ExecuteData _) _ _ (omega arith)
-    (rw (w.kind_number.ensures, w.command_number.ensures) at w.one_word.ensures)
+    (rw (w.from.ensures, w.from-2.ensures) at w.one_word.ensures)

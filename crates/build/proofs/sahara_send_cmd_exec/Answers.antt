@@ -16,4 +16,4 @@ pub returns : goal.returns
 unfolding bytes_of fields le_bytes
 returns c =
     let w = c in
-    builds (Q.Execute _) _ _ (omega arith) (rw w.command_number.ensures at w.one_word.ensures)
+    builds (Q.Execute _) _ _ (omega arith) (rw w.from.ensures at w.one_word.ensures)

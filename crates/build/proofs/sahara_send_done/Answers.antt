@@ -16,4 +16,4 @@ pub returns : goal.returns
 unfolding bytes_of fields le_bytes
 returns c =
     let g = c in
-    builds Q.Done _ _ (omega arith) (rw g.kind_number.ensures at g.sahara_send_generic.ensures)
+    builds Q.Done _ _ (omega arith) (rw g.from.ensures at g.sahara_send_generic.ensures)

@@ -16,4 +16,4 @@ returns c =
     let b = c in
     let g = c in
     builds (Q.HelloResp _) _ _ (omega arith)
-    (rw (b.hello_body.ensures, b.mode_number.ensures, g.sahara_send_generic.ensures, g.kind_number.ensures) refl)
+    (rw (b.hello_body.ensures, b.from-2.ensures, g.sahara_send_generic.ensures, g.from.ensures) refl)

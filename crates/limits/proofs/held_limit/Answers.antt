@@ -3,13 +3,14 @@ use mathlib.Core.Path.{◌≡◌, sym, ap, ◌∙◌}
 use native.Mathlib.Omega.{arith}
 use borrow.Author.Tests.{lt-ltb, le-ltb, le-leb, lt-leb}
 use Rattle.packet.specs.Packet.{length_field, bad_length, length_checked}
-use Rattle.packet.specs.declared.LengthCheck.{LengthCheck}
 use Rattle.limits.proofs.Laws.{good_length, refused_length}
 use Rattle.limits.proofs.held_limit.Goals as goal
 use Rattle.limits.proofs.held_limit.Goals.{After-sahara_read_packet_length}
+use Rattle.std.specs.Prelude.{Result}
+use Rattle.refusal.specs.declared.Refusal.{Refusal}
 
 -- what the answer about the length in the header says of that length
-length-is : (c : After-sahara_read_packet_length) {x : LengthCheck} → c.sahara_read_packet_length.result ≡ x
+length-is : (c : After-sahara_read_packet_length) {x : Result Unit Refusal} → c.sahara_read_packet_length.result ≡ x
     → length_checked (length_field c.args.window) ≡ x
 length-is c e = sym (c.sahara_read_packet_length.ensures.is ∙ ap length_checked c.length_in-size.ensures) ∙ e
 

@@ -1,11 +1,11 @@
 -- `raw_records::raw_sheet` meets its contract: by the cases. Assumes nothing.
 use mathlib.Core.Path.{◌≡◌, sym, ap}
-use Rattle.sheet.specs.declared.Sheet.TheVariants as S
 use Rattle.raw_records.specs.Records.{raw_sheet}
 use Rattle.raw_records.proofs.raw_sheet.Goals as goal
+use Rattle.std.specs.Prelude.{Ok, Err}
 
 pub returns-in-Made : goal.returns-in-Made
-returns-in-Made c = let e : c.args.x ≡ S.Made c.in-Made.k = cc in sym (ap raw_sheet e)
+returns-in-Made c = let e : c.args.x ≡ Ok c.in-Made.k = cc in sym (ap raw_sheet e)
 
 pub returns-in-Refused : goal.returns-in-Refused
-returns-in-Refused c = let e : c.args.x ≡ S.Refused c.in-Refused.why = cc in sym (ap raw_sheet e)
+returns-in-Refused c = let e : c.args.x ≡ Err c.in-Refused.why = cc in sym (ap raw_sheet e)

@@ -10,10 +10,10 @@ use Rattle.bundle.specs.Bundle.{count_of, well_formed}
 use Rattle.bundle.proofs.Laws.{checked_good, checked_refused, formed}
 use Rattle.writer.specs.Writer.{data_of, most_data}
 use Rattle.tidied.specs.Tidy.{first_contents, tidy_bytes, tidy_data, tidied_told}
-use Rattle.tidied.specs.declared.Tidied.TheVariants as T
 use Rattle.tidied.proofs.Laws.{length_tidy, len_malformed, len_passes, len_made}
 use Rattle.tidy.proofs.tidy_len.Goals as goal
 use Rattle.tidy.proofs.tidy_len.Goals.{After-data_size-size}
+use Rattle.std.specs.Prelude.{Ok}
 
 pub returns-in_default : goal.returns-in_default
 returns-in_default c =
@@ -67,4 +67,4 @@ returns c =
     let l : tidy_data B ≤ most_data = omega (arith, m.sum) in
     let k : 8 + 8 * c.slot_count-n.result + c.data_size-size.result ≡ length (tidy_bytes B) =
     omega (arith, m.count, m.sum, length_tidy B) in
-    tells tidied_told (ap T.Made k ∙ sym (len_made B m.good l))
+    tells tidied_told (ap Ok k ∙ sym (len_made B m.good l))

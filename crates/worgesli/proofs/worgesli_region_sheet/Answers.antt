@@ -5,12 +5,12 @@ use mathlib.Core.List.{List}
 use Prim.Native.Nat.{ℕ}
 use Rattle.field.specs.Field.{field_size}
 use Rattle.sheet.specs.Sheet.{sheet_outcome, sheet_of}
-use Rattle.sheet.specs.declared.Sheet.TheVariants as S
 use Rattle.raw.specs.Raw.{width_of, is_width}
 use Rattle.worgesli.specs.Worgesli.{crossed, sheet_raw}
 use Rattle.worgesli.proofs.worgesli_region_sheet.Goals as goal
+use Rattle.std.specs.Prelude.{Ok}
 
-no-width : (t : List ℕ) (n : ℕ) (p : List ℕ) → is_width n ≡ false → sheet_outcome (S.Made 0) p ≡ sheet_raw t n p
+no-width : (t : List ℕ) (n : ℕ) (p : List ℕ) → is_width n ≡ false → sheet_outcome (Ok 0) p ≡ sheet_raw t n p
 unfolding sheet_raw
 no-width t n p e = rw e refl
 
