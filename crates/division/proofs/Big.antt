@@ -22,14 +22,14 @@ use Rattle.std.specs.Prelude.{Option, Some, None, Result, Ok, Err}
 use Rattle.refusal.specs.declared.Refusal.{Refusal}
 use Rattle.command.specs.declared.SaharaCmdModeCmd.{SaharaCmdModeCmd}
 
-abbrev pub Big : ℕ → Verdict → Type 0
-Big n (W.Reply q) = Unit
-Big n (W.Image x k) = Unit
-Big n W.Pass = Unit
-Big n (W.Finish how) = Unit
-Big n (W.Respond c k) = 16 ≤ n
-Big n (W.Debug v a k) = 16 ≤ n
-Big n (W.Refused why) = Unit
+abbrev pub Big : ℕ → Result Verdict Refusal → Type 0
+Big n (Ok (W.Reply q)) = Unit
+Big n (Ok (W.Image x k)) = Unit
+Big n (Ok W.Pass) = Unit
+Big n (Ok (W.Finish how)) = Unit
+Big n (Ok (W.Respond c k)) = 16 ≤ n
+Big n (Ok (W.Debug v a k)) = 16 ≤ n
+Big n (Err why) = Unit
 
 module _ (u : Opening) (set : List ℕ) (tsize rsize n : ℕ) where
   image_big : (r : Result (ℕ × ℕ) Refusal) → Big n (image_for r)

@@ -49,14 +49,14 @@ module _ (s : Session) (d set names t y o : List ℕ) where
   abbrev Cut : Outcome → Type 0
   Cut r = CutIn r.stepped.session.phase
 
-  acted_cut : (n : ℕ) (w : List ℕ) (v : Verdict) → Cut (acted s n w t y o v)
-  acted_cut n w (W.Reply q) = tt
-  acted_cut n w (W.Image x k) = tt
-  acted_cut n w W.Pass = tt
-  acted_cut n w (W.Finish how) = tt
-  acted_cut n w (W.Respond c k) = tt
-  acted_cut n w (W.Debug v a k) = tt
-  acted_cut n w (W.Refused why) = tt
+  acted_cut : (n : ℕ) (w : List ℕ) (v : Result Verdict Refusal) → Cut (acted s n w t y o v)
+  acted_cut n w (Ok (W.Reply q)) = tt
+  acted_cut n w (Ok (W.Image x k)) = tt
+  acted_cut n w (Ok W.Pass) = tt
+  acted_cut n w (Ok (W.Finish how)) = tt
+  acted_cut n w (Ok (W.Respond c k)) = tt
+  acted_cut n w (Ok (W.Debug v a k)) = tt
+  acted_cut n w (Err why) = tt
 
   packet_cut : (h : ℕ) → Cut (packet_of s h d set t y o)
   unfolding packet_of sized_of whole_of

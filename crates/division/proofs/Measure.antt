@@ -104,23 +104,23 @@ module _ (s : Session) (d set names t y o : List ℕ) (n : ℕ) (room : length d
   abbrev Less : ℕ → Outcome → Type 0
   Less b r = steps_at (field_size r.stepped.session.width) r.stepped.session.phase (n - r.stepped.taken) + 1 ≤ b
 
-  acted_less : (h m : ℕ) → 0 < m → m ≤ n → (w : List ℕ) (v : Verdict) → Big (h + m) v → Less (n + (h + n) / 8) (acted s m w t y o v)
-  acted_less h m a b w (W.Reply q) g = omega arith
-  acted_less h m a b w (W.Image x k) g = omega arith
-  acted_less h m a b w W.Pass g = omega arith
-  acted_less h m a b w (W.Finish how) g = omega arith
-  acted_less h m a b w (W.Respond c k) g = omega arith
-  acted_less h m a b w (W.Debug v i k) g = omega arith
-  acted_less h m a b w (W.Refused why) g = omega arith
+  acted_less : (h m : ℕ) → 0 < m → m ≤ n → (w : List ℕ) (v : Result Verdict Refusal) → Big (h + m) v → Less (n + (h + n) / 8) (acted s m w t y o v)
+  acted_less h m a b w (Ok (W.Reply q)) g = omega arith
+  acted_less h m a b w (Ok (W.Image x k)) g = omega arith
+  acted_less h m a b w (Ok W.Pass) g = omega arith
+  acted_less h m a b w (Ok (W.Finish how)) g = omega arith
+  acted_less h m a b w (Ok (W.Respond c k)) g = omega arith
+  acted_less h m a b w (Ok (W.Debug v i k)) g = omega arith
+  acted_less h m a b w (Err why) g = omega arith
 
-  big_more : (i j : ℕ) (v : Verdict) → i ≤ j → Big i v → Big j v
-  big_more i j (W.Reply q) l g = tt
-  big_more i j (W.Image x k) l g = tt
-  big_more i j W.Pass l g = tt
-  big_more i j (W.Finish how) l g = tt
-  big_more i j (W.Respond c k) l g = omega arith
-  big_more i j (W.Debug v a k) l g = omega arith
-  big_more i j (W.Refused why) l g = tt
+  big_more : (i j : ℕ) (v : Result Verdict Refusal) → i ≤ j → Big i v → Big j v
+  big_more i j (Ok (W.Reply q)) l g = tt
+  big_more i j (Ok (W.Image x k)) l g = tt
+  big_more i j (Ok W.Pass) l g = tt
+  big_more i j (Ok (W.Finish how)) l g = tt
+  big_more i j (Ok (W.Respond c k)) l g = omega arith
+  big_more i j (Ok (W.Debug v a k)) l g = omega arith
+  big_more i j (Err why) l g = tt
 
   packet_less : (h : ℕ) → length s.window ≡ 48 → held_limit s.window h ≡ false → 0 < length d → Less (n + (h + n) / 8) (packet_of s h d set t y o)
   unfolding packet_of sized_of whole_of
@@ -141,7 +141,7 @@ module _ (s : Session) (d set names t y o : List ℕ) (n : ℕ) (room : length d
       let p : 0 < m = omega arith in
       split (Less B) (ltb (h + m) size) (λ i. omega arith)
       (λ i.
-      let v : Verdict = verdict_of s.opening set (length t) (length y) (take (length_field w) w) in
+      let v : Result Verdict Refusal = verdict_of s.opening set (length t) (length y) (take (length_field w) w) in
       let q : size ≤ h + m = ltb-false (h + m) size i in
       let e : length_field w ≡ size = same_header h m full (omega arith) (omega (arith, eight_or_more size g)) in
       let k : length (take (length_field w) w) ≤ h + m = omega (arith, length-take (length_field w) w, e) in

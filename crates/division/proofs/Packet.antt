@@ -25,6 +25,8 @@ use Rattle.waiting.proofs.Waiting.{keep_header, eight_or_more}
 use Rattle.division.specs.Law.{Joined, alone, joined}
 use Rattle.division.proofs.Window.{keep_keep}
 use Rattle.division.proofs.Phases.{Law, still_in_order}
+use Rattle.std.specs.Prelude.{Result, Ok, Err}
+use Rattle.refusal.specs.declared.Refusal.{Refusal}
 
 -- a good length is 4,096 at most
 most : (n : ℕ) → bad_length n ≡ false → n ≤ 4096
@@ -48,20 +50,20 @@ module _ (s : Session) (set names d e t y o : List ℕ) (h : ℕ) (full : length
   Joins q r = Joined (P.Packet h) set names d e short q r
 
   -- a whole packet: what the verdict asks for, from s with a + n bytes or from z with n
-  acted_joined : InOrder z set names t y o → (n : ℕ) (w : List ℕ) (x : Verdict) → Joins (acted z n w t y o x) (acted s (a + n) w t y o x)
-  acted_joined ord n w (W.Reply q) =
+  acted_joined : InOrder z set names t y o → (n : ℕ) (w : List ℕ) (x : Result Verdict Refusal) → Joins (acted z n w t y o x) (acted s (a + n) w t y o x)
+  acted_joined ord n w (Ok (W.Reply q)) =
       record { live = refl; packet = refl; order = ord; all = refl; taken = refl; session = refl; table = refl; reply = refl; out = refl; events = refl }
-  acted_joined ord n w (W.Image i k) =
+  acted_joined ord n w (Ok (W.Image i k)) =
       record { live = refl; packet = refl; order = ord; all = refl; taken = refl; session = refl; table = refl; reply = refl; out = refl; events = refl }
-  acted_joined ord n w W.Pass =
+  acted_joined ord n w (Ok W.Pass) =
       record { live = refl; packet = refl; order = ord; all = refl; taken = refl; session = refl; table = refl; reply = refl; out = refl; events = refl }
-  acted_joined ord n w (W.Finish how) =
+  acted_joined ord n w (Ok (W.Finish how)) =
       record { live = refl; packet = refl; order = ord; all = refl; taken = refl; session = refl; table = refl; reply = refl; out = refl; events = refl }
-  acted_joined ord n w (W.Respond c k) =
+  acted_joined ord n w (Ok (W.Respond c k)) =
       record { live = refl; packet = refl; order = ord; all = refl; taken = refl; session = refl; table = refl; reply = refl; out = refl; events = refl }
-  acted_joined ord n w (W.Debug b i k) =
+  acted_joined ord n w (Ok (W.Debug b i k)) =
       record { live = refl; packet = refl; order = ord; all = refl; taken = refl; session = refl; table = refl; reply = refl; out = refl; events = refl }
-  acted_joined ord n w (W.Refused why) =
+  acted_joined ord n w (Err why) =
       record { live = refl; packet = refl; order = ord; all = refl; taken = refl; session = refl; table = refl; reply = refl; out = refl; events = refl }
 
   -- the session between is within its limits

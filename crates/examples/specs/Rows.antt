@@ -62,14 +62,14 @@ abbrev pub of_length : Result Unit Refusal → Says
 of_length (Ok tt) = ok
 of_length (Err why) = refused why
 
-abbrev pub of_verdict : Verdict → Says
-of_verdict (W.Reply q) = sends (bytes_of q)
-of_verdict (W.Image x k) = given x k
-of_verdict W.Pass = ok
-of_verdict (W.Finish how) = finish how
-of_verdict (W.Respond c k) = ok
-of_verdict (W.Debug v a k) = sends (bytes_of (Q.MemRead v a k))
-of_verdict (W.Refused why) = refused why
+abbrev pub of_verdict : Result Verdict Refusal → Says
+of_verdict (Ok (W.Reply q)) = sends (bytes_of q)
+of_verdict (Ok (W.Image x k)) = given x k
+of_verdict (Ok W.Pass) = ok
+of_verdict (Ok (W.Finish how)) = finish how
+of_verdict (Ok (W.Respond c k)) = ok
+of_verdict (Ok (W.Debug v a k)) = sends (bytes_of (Q.MemRead v a k))
+of_verdict (Err why) = refused why
 
 abbrev pub of_range : Result (ℕ × ℕ) Refusal → Says
 of_range (Ok (x, k)) = given x k

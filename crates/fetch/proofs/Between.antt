@@ -32,6 +32,7 @@ use Rattle.fetch.proofs.Device.{no_bytes}
 use Rattle.fetch.proofs.Invariant.{table_at, to_come, GoodBetween, due_between, bound_between, Kept, via, in_region, bound_in, cost}
 use Rattle.std.specs.Prelude.{Ok}
 use Rattle.refusal.specs.Refusal.{accepted}
+use Rattle.verdict.specs.declared.Finish.TheVariants as Finish
 
 -- ---- a table t and a buffer b that begins with it: the entries of t are those of b. f is the width of an entry's numbers
 
@@ -227,7 +228,7 @@ module _ (c : Setting) (dbg : Debug) (en : Ending) (k i : ℕ) (w : Ghost) (g : 
 
     -- none is left
     finish : dbg.size / entry_size f ≤ found
-        → Keeps (outcome (gives (ended w.session) 0 (A.Finished 3 w.session.reads)) w.table w.reply w.out)
+        → Keeps (outcome (gives (ended w.session) 0 (A.Finished Finish.Dumped w.session.reads)) w.table w.reply w.out)
     finish h =
         let q : to_come c dbg v i ≡ [] =
         miss f w.table t dbg.size g.table room_for c.names left i (omega (arith, entries)) (rw entries h) in

@@ -173,14 +173,14 @@ module _ (s : Session) (d set : List ℕ) where
   -- ---- packet: no memory read was sent before
 
   module _ (none : s.reads ≡ 0) (t y o : List ℕ) where
-    acted_counts : (n : ℕ) (w : List ℕ) (v : Verdict) → Sane set (length t) v → Counts (acted s n w t y o v)
-    acted_counts n w (W.Reply q) h = sends q _ n t y o (rw (h, add-zero) refl) none
-    acted_counts n w (W.Image x k) h = single (image (take k (drop x set))) _ n (A.Image x k) t y o refl none refl refl refl tt
-    acted_counts n w W.Pass h = silent _ n A.Go t y o refl none refl
-    acted_counts n w (W.Finish how) h = ends_here how _ n t y o refl refl tt
-    acted_counts n w (W.Respond c k) h = sends (Q.ExecuteData c) _ n t y o (sym (add-zero s.reads)) tt
-    acted_counts n w (W.Debug x a k) h = sends (Q.MemRead x a k) _ n t y o (rw none refl) tt
-    acted_counts n w (W.Refused why) h = silent _ n (A.Refused why) t y o refl tt refl
+    acted_counts : (n : ℕ) (w : List ℕ) (v : Result Verdict Refusal) → Sane set (length t) v → Counts (acted s n w t y o v)
+    acted_counts n w (Ok (W.Reply q)) h = sends q _ n t y o (rw (h, add-zero) refl) none
+    acted_counts n w (Ok (W.Image x k)) h = single (image (take k (drop x set))) _ n (A.Image x k) t y o refl none refl refl refl tt
+    acted_counts n w (Ok W.Pass) h = silent _ n A.Go t y o refl none refl
+    acted_counts n w (Ok (W.Finish how)) h = ends_here how _ n t y o refl refl tt
+    acted_counts n w (Ok (W.Respond c k)) h = sends (Q.ExecuteData c) _ n t y o (sym (add-zero s.reads)) tt
+    acted_counts n w (Ok (W.Debug x a k)) h = sends (Q.MemRead x a k) _ n t y o (rw none refl) tt
+    acted_counts n w (Err why) h = silent _ n (A.Refused why) t y o refl tt refl
 
     packet_counts : (h : ℕ) → Counts (packet_of s h d set t y o)
     unfolding packet_of sized_of whole_of

@@ -58,6 +58,8 @@ use Rattle.fetch.proofs.Device.{no_bytes, bytes_at_split}
 use Rattle.fetch.proofs.Chunk.{Chunk, chunk_good, chunk_some, count_none, count_step}
 use Rattle.fetch.proofs.Verdict.{sane}
 use Rattle.fetch.proofs.Cutting.{never, no_response}
+use Rattle.std.specs.Prelude.{Result, Ok, Err}
+use Rattle.refusal.specs.declared.Refusal.{Refusal}
 
 shown_append : (l m : List Report) → shown (l ++ m) ≡ shown l ++ shown m
 unfolding shown
@@ -187,16 +189,16 @@ module _ (u : Opening) (set : List ℕ) (tsize rsize : ℕ) where
         by : ((hear u set tsize rsize f (drop (length_field s) s)).ending ≡ Debugged dbg r
             → P (hear u set tsize rsize f (drop (length_field s) s)).said)
             → ltb (length s) 8 ≡ false → bad_length (length_field s) ≡ false → ltb (length s) (length_field s) ≡ false
-            → (v : Verdict) → verdict_of u set tsize rsize (take (length_field s) s) ≡ v → P (hear u set tsize rsize (suc f) s).said
-        by ih e m i (W.Reply q) z =
+            → (v : Result Verdict Refusal) → verdict_of u set tsize rsize (take (length_field s) s) ≡ v → P (hear u set tsize rsize (suc f) s).said
+        by ih e m i (Ok (W.Reply q)) z =
             let y : asks q ≡ false = rw z at (sane u set tsize rsize (take (length_field s) s)) in
             rw (e, m, i, z) (packet q _ y (ih (rw (e, m, i, z) at h)))
-        by ih e m i (W.Image x k) z = rw (e, m, i, z) (bytes (take k (drop x set)) _ (ih (rw (e, m, i, z) at h)))
-        by ih e m i W.Pass z = rw (e, m, i, z) (ih (rw (e, m, i, z) at h))
-        by ih e m i (W.Finish how) z = never dbg r (rw (e, m, i, z) at h)
-        by ih e m i (W.Respond c k) z = no_response dbg r (rw (e, m, i, z) at h)
-        by ih e m i (W.Debug v x k) z = rw (e, m, i, z) none
-        by ih e m i (W.Refused why) z = never dbg r (rw (e, m, i, z) at h)
+        by ih e m i (Ok (W.Image x k)) z = rw (e, m, i, z) (bytes (take k (drop x set)) _ (ih (rw (e, m, i, z) at h)))
+        by ih e m i (Ok W.Pass) z = rw (e, m, i, z) (ih (rw (e, m, i, z) at h))
+        by ih e m i (Ok (W.Finish how)) z = never dbg r (rw (e, m, i, z) at h)
+        by ih e m i (Ok (W.Respond c k)) z = no_response dbg r (rw (e, m, i, z) at h)
+        by ih e m i (Ok (W.Debug v x k)) z = rw (e, m, i, z) none
+        by ih e m i (Err why) z = never dbg r (rw (e, m, i, z) at h)
 
   module _ (f : ℕ) (s : List ℕ) (dbg : Debug) (r : List ℕ) (h : (hear u set tsize rsize f s).ending ≡ Debugged dbg r) where
     heard_shown : shown (hear u set tsize rsize f s).said ≡ []

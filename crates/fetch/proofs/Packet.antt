@@ -65,6 +65,8 @@ use Rattle.fetch.proofs.Cutting.{Sized, size_ok, Begins, Halts, starts}
 use Rattle.fetch.proofs.Verdict.{sane}
 use Rattle.fetch.proofs.Invariant.{cost, table_at, to_come, GoodPacket, due_packet, behind, bound_packet, Kept, via}
 use Rattle.refusal.specs.declared.Refusal.TheVariants as Refusal
+use Rattle.std.specs.Prelude.{Result, Ok, Err}
+use Rattle.refusal.specs.declared.Refusal.{Refusal}
 
 none : (l : List ℕ) → length l ≡ 0 → l ≡ []
 none [] e = refl
@@ -234,7 +236,7 @@ module _ (c : Setting) (dbg : Debug) (en : Ending) (h : ℕ) (w : Ghost) (g : Go
       abbrev rest : List ℕ
       rest = drop size s
 
-      abbrev verdict : Verdict
+      abbrev verdict : Result Verdict Refusal
       verdict = verdict_of u c.set (length w.table) (length w.reply) (take size s)
 
       to_size : h + k ≡ size
@@ -277,7 +279,7 @@ module _ (c : Setting) (dbg : Debug) (en : Ending) (h : ℕ) (w : Ghost) (g : Go
               fell = rw (z, ← queue_rest, length-drop) (omega (arith, no_longer d w.queue v, short first));
             }
 
-        reply : (q : Request) → verdict ≡ W.Reply q
+        reply : (q : Request) → verdict ≡ Ok (W.Reply q)
             → Keeps (outcome (gives (holding w.session win (P.Packet 0)) k (A.Send (size_of q))) w.table w.reply (front q w.out))
         reply q e =
             let f : heard ≡ say (sent (bytes_of q)) after_it = first.cut ∙ rw e refl in
@@ -288,20 +290,20 @@ module _ (c : Setting) (dbg : Debug) (en : Ending) (h : ℕ) (w : Ghost) (g : Go
             (ap (λ (o : Heard). o.ending) f)
             (rw (f, st) (reports_say u c.mem c.names (sent (bytes_of q)) after_it))
 
-        show : (x m : ℕ) → verdict ≡ W.Image x m
+        show : (x m : ℕ) → verdict ≡ Ok (W.Image x m)
             → Keeps (outcome (gives (holding w.session win (P.Packet 0)) k (A.Image x m)) w.table w.reply w.out)
         show x m e =
             let f : heard ≡ say (image (take m (drop x c.set))) after_it = first.cut ∙ rw e refl in
             onward (A.Image x m) w.out g.out (rw append-nil queue_rest) (ap (λ (o : Heard). o.ending) f)
             (rw f (reports_say u c.mem c.names (image (take m (drop x c.set))) after_it))
 
-        pass : verdict ≡ W.Pass → Keeps (outcome (gives (holding w.session win (P.Packet 0)) k A.Go) w.table w.reply w.out)
+        pass : verdict ≡ Ok W.Pass → Keeps (outcome (gives (holding w.session win (P.Packet 0)) k A.Go) w.table w.reply w.out)
         pass e =
             let f : heard ≡ after_it = first.cut ∙ rw e refl in
             onward A.Go w.out g.out (rw append-nil queue_rest) (ap (λ (o : Heard). o.ending) f) (rw f refl)
 
         -- it ends the session
-        finish : (how : ℕ) → verdict ≡ W.Finish how
+        finish : (how : ℕ) → verdict ≡ Ok (W.Finish how)
             → Keeps (outcome (gives (ended w.session) k (A.Finished how w.session.reads)) w.table w.reply w.out)
         finish how e =
             let f : heard ≡ say (finished how 0) (stop Stopped) = first.cut ∙ rw e refl in
@@ -311,7 +313,7 @@ module _ (c : Setting) (dbg : Debug) (en : Ending) (h : ℕ) (w : Ghost) (g : Go
               fell = omega arith;
             }
 
-        refuse : (why : ℕ) → verdict ≡ W.Refused why
+        refuse : (why : ℕ) → verdict ≡ Err why
             → Keeps (outcome (gives (ended w.session) k (A.Refused why)) w.table w.reply w.out)
         refuse why e =
             let f : heard ≡ stop Stopped = first.cut ∙ rw e refl in
@@ -319,12 +321,12 @@ module _ (c : Setting) (dbg : Debug) (en : Ending) (h : ℕ) (w : Ghost) (g : Go
 
         module _ (fit : Fits dbg en) where
           -- it is the memory debug that the plain host comes to
-          debugged : (x : Width) (b m : ℕ) → verdict ≡ W.Debug x b m → Debugged (debug x b m) rest ≡ en
+          debugged : (x : Width) (b m : ℕ) → verdict ≡ Ok (W.Debug x b m) → Debugged (debug x b m) rest ≡ en
           debugged x b m e =
               let f : heard ≡ stop (Debugged (debug x b m) rest) = first.cut ∙ rw e refl in
               ap (λ (o : Heard). o.ending) (sym f) ∙ g.ends
 
-          ask : verdict ≡ W.Debug dbg.width dbg.address dbg.size
+          ask : verdict ≡ Ok (W.Debug dbg.width dbg.address dbg.size)
               → Keeps
               (outcome
               (gives (reading (of_width (holding w.session win w.session.phase) dbg.width) 1 (P.Table (filling dbg.size 0))) k
@@ -358,19 +360,19 @@ module _ (c : Setting) (dbg : Debug) (en : Ending) (h : ℕ) (w : Ghost) (g : Go
           unfolding whole_of
           whole = go verdict refl
             where
-              go : (x : Verdict) → verdict ≡ x → Keeps (whole_of w.session k win c.set w.table w.reply w.out)
-              go (W.Reply q) e = via c dbg en (rw (same_verdict l, e) refl) (reply q e)
-              go (W.Image x m) e = via c dbg en (rw (same_verdict l, e) refl) (show x m e)
-              go W.Pass e = via c dbg en (rw (same_verdict l, e) refl) (pass e)
-              go (W.Finish how) e = via c dbg en (rw (same_verdict l, e) refl) (finish how e)
-              go (W.Respond x m) e =
+              go : (x : Result Verdict Refusal) → verdict ≡ x → Keeps (whole_of w.session k win c.set w.table w.reply w.out)
+              go (Ok (W.Reply q)) e = via c dbg en (rw (same_verdict l, e) refl) (reply q e)
+              go (Ok (W.Image x m)) e = via c dbg en (rw (same_verdict l, e) refl) (show x m e)
+              go (Ok W.Pass) e = via c dbg en (rw (same_verdict l, e) refl) (pass e)
+              go (Ok (W.Finish how)) e = via c dbg en (rw (same_verdict l, e) refl) (finish how e)
+              go (Ok (W.Respond x m)) e =
                   let f : heard ≡ say (sent (bytes_of (Q.ExecuteData x))) (stop Responded) = first.cut ∙ rw e refl in
                   absurd (fit.silent (ap (λ (o : Heard). o.ending) (sym f) ∙ g.ends))
-              go (W.Debug x b m) e =
+              go (Ok (W.Debug x b m)) e =
                   let p = fit.asked x b m rest (debugged x b m e) in
-                  let f : verdict ≡ W.Debug dbg.width dbg.address dbg.size = e ∙ rw (p.0, p.1, p.2) refl in
+                  let f : verdict ≡ Ok (W.Debug dbg.width dbg.address dbg.size) = e ∙ rw (p.0, p.1, p.2) refl in
                   via c dbg en (rw (same_verdict l, f) refl) (ask f)
-              go (W.Refused why) e = via c dbg en (rw (same_verdict l, e) refl) (refuse why e)
+              go (Err why) e = via c dbg en (rw (same_verdict l, e) refl) (refuse why e)
 
       some_came : 0 < length d
       some_came = v.some (omega (arith, s_length, first.whole, short first))

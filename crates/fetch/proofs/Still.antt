@@ -67,14 +67,14 @@ module _ (s : Session) (d set names t y o : List ℕ) where
 
   -- ---- no phase but the ended one refuses so
 
-  acted_quiet : (n : ℕ) (w : List ℕ) (v : Verdict) → Sane set (length t) v → Quiet (acted s n w t y o v)
-  acted_quiet n w (W.Reply q) e = λ h. h
-  acted_quiet n w (W.Image x k) e = λ h. h
-  acted_quiet n w W.Pass e = λ h. h
-  acted_quiet n w (W.Finish how) e = λ h. h
-  acted_quiet n w (W.Respond c k) e = λ h. h
-  acted_quiet n w (W.Debug v a k) e = λ h. h
-  acted_quiet n w (W.Refused why) e = rw e (λ h. h)
+  acted_quiet : (n : ℕ) (w : List ℕ) (v : Result Verdict Refusal) → Sane set (length t) v → Quiet (acted s n w t y o v)
+  acted_quiet n w (Ok (W.Reply q)) e = λ h. h
+  acted_quiet n w (Ok (W.Image x k)) e = λ h. h
+  acted_quiet n w (Ok W.Pass) e = λ h. h
+  acted_quiet n w (Ok (W.Finish how)) e = λ h. h
+  acted_quiet n w (Ok (W.Respond c k)) e = λ h. h
+  acted_quiet n w (Ok (W.Debug v a k)) e = λ h. h
+  acted_quiet n w (Err why) e = rw e (λ h. h)
 
   packet_quiet : (h : ℕ) → Quiet (packet_of s h d set t y o)
   unfolding packet_of sized_of whole_of

@@ -81,6 +81,7 @@ use Rattle.fetch.proofs.Between
 use Rattle.fetch.proofs.Between.{Safe}
 use Rattle.fetch.proofs.Region
 use Rattle.fetch.proofs.Still.{phase_quiet, Still, step_still}
+use Rattle.refusal.specs.declared.Refusal.TheVariants as Refusal
 
 -- the run's own things are well formed, the opening's end fits the memory debug, the selected regions can be dumped
 record Ready (c : Setting) (dbg : Debug) (en : Ending) : Type 0 where
@@ -161,9 +162,9 @@ module _ (c : Setting) (dbg : Debug) (en : Ending) (x : Ready c dbg en) where
 
   -- no count is above its limit
   within : (w : Ghost) (d : List ℕ) (p : Phase) → GoodAt c dbg en p w
-      → pick (is_ended p) (untouched w.session 4 w.table w.reply w.out)
+      → pick (is_ended p) (untouched w.session Refusal.Ended w.table w.reply w.out)
       (pick (reads_limit w.session || phase_limit (field_size w.session.width) w.session.window p w.table w.reply)
-      (untouched w.session 18 w.table w.reply w.out) (at w d p))
+      (untouched w.session Refusal.Limit w.table w.reply w.out) (at w d p))
       ≡ at w d p
   within w d (P.Packet h) g = rw (Packet.limits c dbg en h w g) refl
   within w d (P.Response z) g = absurd g

@@ -63,17 +63,17 @@ decoded_sane p = split DecodedSane (ltb (length p) 8) (λ e. refl) (λ e. class_
 -- ---- what the verdict gives, of any image set: a reply is no memory read; an image lies within the set; no packet finishes (3); a table fits its room; a
 -- refusal ends the session
 
-abbrev pub Sane : List ℕ → ℕ → Verdict → Type 0
-Sane set tsize (W.Reply q) = asks q ≡ false
-Sane set tsize (W.Image x k) = x + k ≤ length set
-Sane set tsize W.Pass = Unit
-Sane set tsize (W.Finish how) = eqb how 3 ≡ false
-Sane set tsize (W.Respond c k) = Unit
-Sane set tsize (W.Debug v a k) = k ≤ room tsize
-Sane set tsize (W.Refused why) = Ends why
+abbrev pub Sane : List ℕ → ℕ → Result Verdict Refusal → Type 0
+Sane set tsize (Ok (W.Reply q)) = asks q ≡ false
+Sane set tsize (Ok (W.Image x k)) = x + k ≤ length set
+Sane set tsize (Ok W.Pass) = Unit
+Sane set tsize (Ok (W.Finish how)) = eqb how 3 ≡ false
+Sane set tsize (Ok (W.Respond c k)) = Unit
+Sane set tsize (Ok (W.Debug v a k)) = k ≤ room tsize
+Sane set tsize (Err why) = Ends why
 
 module _ (u : Opening) (set : List ℕ) (tsize rsize : ℕ) where
-  abbrev Fine : Verdict → Type 0
+  abbrev Fine : Result Verdict Refusal → Type 0
   Fine v = Sane set tsize v
 
   -- a range that is refused is so with 12 or 13

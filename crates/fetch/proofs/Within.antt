@@ -48,6 +48,7 @@ use Rattle.std.specs.Prelude.{Result, Ok, Err}
 use Rattle.refusal.specs.declared.Refusal.{Refusal}
 use Rattle.refusal.specs.declared.Refusal.TheVariants as Refusal
 use Rattle.refusal.specs.Refusal.{accepted}
+use Rattle.verdict.specs.declared.Finish.TheVariants as Finish
 
 module _ (s : Session) (d set names t y o : List ℕ) where
   -- the bytes of the session's numbers
@@ -95,14 +96,14 @@ module _ (s : Session) (d set names t y o : List ℕ) where
           reply = e;
         }
 
-    acted_within : (n : ℕ) (w : List ℕ) → n ≤ length d → (v : Verdict) → Sane set (length t) v → Keeps (acted s n w t y o v)
-    acted_within n w h (W.Reply q) e = sends q _ n h (λ i. tt)
-    acted_within n w h (W.Image x k) e = plainly _ n (A.Image x k) h e (λ i. tt)
-    acted_within n w h W.Pass e = plainly _ n A.Go h tt (λ i. tt)
-    acted_within n w h (W.Finish how) e = plainly _ n (A.Finished how s.reads) h tt (λ i. no_reply)
-    acted_within n w h (W.Respond c k) e = sends (Q.ExecuteData c) _ n h (λ i. tt)
-    acted_within n w h (W.Debug x a k) e = sends (Q.MemRead x a k) _ n h (λ i. tt)
-    acted_within n w h (W.Refused why) e = plainly _ n (A.Refused why) h tt (λ i. no_reply)
+    acted_within : (n : ℕ) (w : List ℕ) → n ≤ length d → (v : Result Verdict Refusal) → Sane set (length t) v → Keeps (acted s n w t y o v)
+    acted_within n w h (Ok (W.Reply q)) e = sends q _ n h (λ i. tt)
+    acted_within n w h (Ok (W.Image x k)) e = plainly _ n (A.Image x k) h e (λ i. tt)
+    acted_within n w h (Ok W.Pass) e = plainly _ n A.Go h tt (λ i. tt)
+    acted_within n w h (Ok (W.Finish how)) e = plainly _ n (A.Finished how s.reads) h tt (λ i. no_reply)
+    acted_within n w h (Ok (W.Respond c k)) e = sends (Q.ExecuteData c) _ n h (λ i. tt)
+    acted_within n w h (Ok (W.Debug x a k)) e = sends (Q.MemRead x a k) _ n h (λ i. tt)
+    acted_within n w h (Err why) e = plainly _ n (A.Refused why) h tt (λ i. no_reply)
 
     packet_within : (h : ℕ) → Keeps (packet_of s h d set t y o)
     unfolding packet_of sized_of whole_of
@@ -161,7 +162,7 @@ module _ (s : Session) (d set names t y o : List ℕ) where
 
     switched_within : (k : ℕ) → k ≤ length y → Keeps (switched_of s k t y o)
     unfolding switched_of
-    switched_within k h = plainly _ 0 (A.Finished 4 s.reads) none tt (λ i. h)
+    switched_within k h = plainly _ 0 (A.Finished Finish.Reply s.reads) none tt (λ i. h)
 
     -- an entry of a table that its buffer holds
     entry_in_lem : (k i : ℕ) → k ≤ length t → i < entries_in f k → entry_size f * (i + 1) ≤ length t
@@ -177,7 +178,7 @@ module _ (s : Session) (d set names t y o : List ℕ) where
         let i : ℕ = next_of f names t (entries_in f k - from) from in
         split (λ r. Keeps (outcome r t y o)) (ltb i (entries_in f k))
         (λ m. open_within k i (entry_of f t i) (open_check (filename_of f (entry_of f t i))) (entry_in_lem k i h (ltb-true _ _ m)))
-        (λ m. plainly _ 0 (A.Finished 3 s.reads) none tt (λ j. no_reply))
+        (λ m. plainly _ 0 (A.Finished Finish.Dumped s.reads) none tt (λ j. no_reply))
 
     module _ (k : ℕ) (x : Region) (h : entry_size f * (x.entry + 1) ≤ length t) where
       next_within : Keeps (next_chunk s k x t y o)

@@ -2,7 +2,7 @@
 -- step it shares the verdict on one whole packet and the leaves, and knows nothing of its phases. ("Opening" is what a session is opened with, as in
 -- verdict/specs/Opening; the device's first bytes are its opening bytes; a region is opened by a report `opened`.) Document 02, request 2: "After MemDebug the
 -- host, the plain host too, sends MemRead for the table and for every chunk, each counted as a memory read".
-use Rattle.std.specs.Prelude.{ℕ, zero, suc, ◌+◌, ◌-◌, ◌%◌, min, Bool, true, false, not, ◌&&◌, ◌||◌, List, [], ◌∷◌, ◌++◌, map, ltb, eqb, length, take, drop}
+use Rattle.std.specs.Prelude.{ℕ, zero, suc, ◌+◌, ◌-◌, ◌%◌, min, Bool, true, false, not, ◌&&◌, ◌||◌, List, [], ◌∷◌, ◌++◌, map, ltb, eqb, length, take, drop, Result, Ok, Err}
 use Rattle.base.specs.Choice.{pick}
 use Rattle.field.specs.Field.{field_size}
 use Rattle.field.specs.declared.Width.{Width}
@@ -19,6 +19,7 @@ use Rattle.verdict.specs.Verdict.{verdict_of}
 use Rattle.verdict.specs.declared.Opening.{Opening}
 use Rattle.verdict.specs.declared.Verdict.{Verdict}
 use Rattle.verdict.specs.declared.Verdict.TheVariants as W
+use Rattle.refusal.specs.declared.Refusal.{Refusal}
 
 -- what a host does that can be seen: a packet sent, an image's bytes, a region opened, a byte of it handed out, an empty read, a region closed,
 -- finished with the memory reads
@@ -76,14 +77,14 @@ abbrev pub say : Report → Heard → Heard
 say r h = record { said = r ∷ h.said; ending = h.ending }
 
 -- by a packet's verdict; rest is what the bytes s behind the packet give. Finished with 0: no memory read is sent before a memory debug
-abbrev pub after : List ℕ → List ℕ → Heard → Verdict → Heard
-after set s rest (W.Reply q) = say (sent (bytes_of q)) rest
-after set s rest (W.Image x k) = say (image (take k (drop x set))) rest
-after set s rest W.Pass = rest
-after set s rest (W.Finish how) = say (finished how 0) (stop Stopped)
-after set s rest (W.Respond c k) = say (sent (bytes_of (Q.ExecuteData c))) (stop Responded)
-after set s rest (W.Debug v a k) = stop (Debugged (debug v a k) s)
-after set s rest (W.Refused why) = stop Stopped
+abbrev pub after : List ℕ → List ℕ → Heard → Result Verdict Refusal → Heard
+after set s rest (Ok (W.Reply q)) = say (sent (bytes_of q)) rest
+after set s rest (Ok (W.Image x k)) = say (image (take k (drop x set))) rest
+after set s rest (Ok W.Pass) = rest
+after set s rest (Ok (W.Finish how)) = say (finished how 0) (stop Stopped)
+after set s rest (Ok (W.Respond c k)) = say (sent (bytes_of (Q.ExecuteData c))) (stop Responded)
+after set s rest (Ok (W.Debug v a k)) = stop (Debugged (debug v a k) s)
+after set s rest (Err why) = stop Stopped
 
 -- fuel: each packet has at least 8 bytes, so the string's length is enough; more changes nothing (`fuel` of proofs/Cutting)
 unfoldable pub hear : Opening → List ℕ → ℕ → ℕ → ℕ → List ℕ → Heard

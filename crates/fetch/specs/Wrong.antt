@@ -23,6 +23,8 @@ use Rattle.session.specs.Step.{step_of}
 use Rattle.fetch.specs.Plain.{Debug, Setting}
 use Rattle.fetch.specs.Device.{Given, Host, Lent, given_of, start}
 use Rattle.fetch.specs.Claim.{Run, enough, Premises, Fetched}
+use Rattle.refusal.specs.declared.Refusal.TheVariants as Refusal
+use Rattle.verdict.specs.declared.Finish.TheVariants as Finish
 
 -- demand 3 is false of a host on a board of this width: a run that meets the premises, a fair list of steps, and what is claimed of it does not hold
 pub record FailsOn (h : Host) (v : Width) : Type 0 where
@@ -120,7 +122,7 @@ merging = amiss (λ names t r. on_open (λ i. pick (named_before (field_size r.s
 -- whole dump, or anything, by names, table and session
 
 abbrev pub early : (List ℕ → List ℕ → Session → ℕ) → Host
-early count = amiss (λ names t r. on_open (λ i. giving (ended r.state) 0 (A.Finished 3 (count names t r.state)) r) r)
+early count = amiss (λ names t r. on_open (λ i. giving (ended r.state) 0 (A.Finished Finish.Dumped (count names t r.state)) r) r)
 
 -- ---- invents its memory reads: right in all, but that it tells `count n` at the end where it made n
 
@@ -168,5 +170,5 @@ idle =
     record {
       State = Session;
       fresh = opened_with;
-      step = λ s d set names t y o. answering A.Go (given_of (untouched s 4 t y o));
+      step = λ s d set names t y o. answering A.Go (given_of (untouched s Refusal.Ended t y o));
     }

@@ -34,6 +34,7 @@ use Rattle.fetch_forecast.specs.Claim.{DecodesIn, Decodes}
 use Rattle.std.specs.Prelude.{Result, Ok, Err}
 use Rattle.refusal.specs.declared.Refusal.{Refusal}
 use Rattle.refusal.specs.declared.Refusal.TheVariants as Refusal
+use Rattle.verdict.specs.declared.Finish.TheVariants as Finish
 
 -- the table has come: it decodes to a list, the numbers being of f bytes and b the buffer; or the session has ended
 abbrev Had : ℕ → Phase → List ℕ → Type 0
@@ -63,7 +64,7 @@ module _ (b : List ℕ) (s : Session) (d set names t y o : List ℕ) where
   between_leaves k from =
       let i : ℕ = next_of f names t (entries_in f k - from) from in
       split (λ r. Leaves (outcome r t y o)) (ltb i (entries_in f k))
-      (λ e. opening_leaves k i (entry_of f t i) (open_check (filename_of f (entry_of f t i)))) (λ e. plainly _ 0 (A.Finished 3 s.reads) o (inr tt))
+      (λ e. opening_leaves k i (entry_of f t i) (open_check (filename_of f (entry_of f t i)))) (λ e. plainly _ 0 (A.Finished Finish.Dumped s.reads) o (inr tt))
 
   module _ (h : Had f s.phase b) where
     module _ (k : ℕ) (x : Region) where

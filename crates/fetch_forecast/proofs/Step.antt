@@ -57,6 +57,7 @@ use Rattle.std.specs.Prelude.{Result, Ok, Err}
 use Rattle.refusal.specs.declared.Refusal.{Refusal}
 use Rattle.refusal.specs.declared.Refusal.TheVariants as Refusal
 use Rattle.refusal.specs.Refusal.{accepted}
+use Rattle.verdict.specs.declared.Finish.TheVariants as Finish
 
 -- ---- finished (3)
 
@@ -71,7 +72,7 @@ finishes_three (A.Close i) = false
 finishes_three (A.Finished how r) = eqb how 3
 finishes_three (A.Refused why) = false
 
-other : {X : Type 0} (a : Answer) → finishes_three a ≡ false → (q : ℕ) → a ≡ A.Finished 3 q → X
+other : {X : Type 0} (a : Answer) → finishes_three a ≡ false → (q : ℕ) → a ≡ A.Finished Finish.Dumped q → X
 other a e q h = differ (sym e ∙ ap finishes_three h)
 
 -- ---- sums of what is done, of the open region, and of the regions behind it
@@ -167,8 +168,8 @@ module _ (u : Opening) (names : List ℕ) where
       pub kept : Kept r.stepped.session (put r.table) (n + how_many is_opened (told_by r d set)) (m + how_many is_byte (told_by r d set))
       pub table : (es : List RamdumpTable64) → DecodesIn f p b es
           → Decodes r.stepped.session (put r.table) es ⊎ T (is_ended r.stepped.session.phase)
-      pub last : (q : ℕ) → r.stepped.answer ≡ A.Finished 3 q → is_ended r.stepped.session.phase ≡ true
-      pub ends : (q : ℕ) → r.stepped.answer ≡ A.Finished 3 q → (es : List RamdumpTable64) → DecodesIn f p b es → Done es n m q
+      pub last : (q : ℕ) → r.stepped.answer ≡ A.Finished Finish.Dumped q → is_ended r.stepped.session.phase ≡ true
+      pub ends : (q : ℕ) → r.stepped.answer ≡ A.Finished Finish.Dumped q → (es : List RamdumpTable64) → DecodesIn f p b es → Done es n m q
 
     -- nothing is opened or handed out, and it is not finished (3)
     quiet : (p : Phase) (z : Session) (j : ℕ) (a : Answer) (t' y' o' : List ℕ) → how_many is_opened (reports_for a d set o') ≡ 0
@@ -205,15 +206,15 @@ module _ (u : Opening) (names : List ℕ) where
           → Goes (P.Packet h) (outcome (gives z j a) t y o')
       early z j a o' e g i l w = quiet (P.Packet h) z j a t y o' e g i l w (λ es v. absurd v)
 
-      acted_goes : (j : ℕ) (w : List ℕ) (v : Verdict) → Sane set (length t) v → Goes (P.Packet h) (acted s j w t y o v)
+      acted_goes : (j : ℕ) (w : List ℕ) (v : Result Verdict Refusal) → Sane set (length t) v → Goes (P.Packet h) (acted s j w t y o v)
       unfolding how_many
-      acted_goes j w (W.Reply q) e = early _ j (A.Send (size_of q)) (front q o) refl refl refl x refl
-      acted_goes j w (W.Image a k) e = early _ j (A.Image a k) o refl refl refl x refl
-      acted_goes j w W.Pass e = early _ j A.Go o refl refl refl x refl
-      acted_goes j w (W.Finish how) e = early _ j (A.Finished how s.reads) o refl refl refl tt e
-      acted_goes j w (W.Respond c k) e = early _ j (A.Send (size_of (Q.ExecuteData c))) (front (Q.ExecuteData c) o) refl refl refl tt refl
-      acted_goes j w (W.Debug v a k) e = early _ j (A.Send (size_of (Q.MemRead v a k))) (front (Q.MemRead v a k) o) refl refl refl (x.0, x.1, refl) refl
-      acted_goes j w (W.Refused why) e = early _ j (A.Refused why) o refl refl refl tt refl
+      acted_goes j w (Ok (W.Reply q)) e = early _ j (A.Send (size_of q)) (front q o) refl refl refl x refl
+      acted_goes j w (Ok (W.Image a k)) e = early _ j (A.Image a k) o refl refl refl x refl
+      acted_goes j w (Ok W.Pass) e = early _ j A.Go o refl refl refl x refl
+      acted_goes j w (Ok (W.Finish how)) e = early _ j (A.Finished how s.reads) o refl refl refl tt e
+      acted_goes j w (Ok (W.Respond c k)) e = early _ j (A.Send (size_of (Q.ExecuteData c))) (front (Q.ExecuteData c) o) refl refl refl tt refl
+      acted_goes j w (Ok (W.Debug v a k)) e = early _ j (A.Send (size_of (Q.MemRead v a k))) (front (Q.MemRead v a k) o) refl refl refl (x.0, x.1, refl) refl
+      acted_goes j w (Err why) e = early _ j (A.Refused why) o refl refl refl tt refl
 
       packet_goes : Goes (P.Packet h) (packet_of s h d set t y o)
       unfolding packet_of sized_of whole_of how_many
@@ -241,7 +242,7 @@ module _ (u : Opening) (names : List ℕ) where
 
     switched_goes : (k : ℕ) → Goes (P.Switched k) (switched_of s k t y o)
     unfolding switched_of how_many
-    switched_goes k = quiet (P.Switched k) _ 0 (A.Finished 4 s.reads) t y o refl refl refl tt refl (λ es v. absurd v)
+    switched_goes k = quiet (P.Switched k) _ 0 (A.Finished Finish.Reply s.reads) t y o refl refl refl tt refl (λ es v. absurd v)
 
     module _ (x : Filling) (z : (n ≡ 0) × (m ≡ 0) × (s.reads ≡ 1)) where
       -- with the whole table, all is left

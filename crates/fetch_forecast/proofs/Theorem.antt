@@ -32,6 +32,7 @@ use Rattle.fetch.proofs.Counter.{is_end, after, says, turned_over, all_over, Cal
 use Rattle.fetch.proofs.Lent.{kept_lent, lent_own}
 use Rattle.fetch_forecast.specs.Claim.{is_opened, is_byte, DecodesIn, Decodes, Lends, Foretells}
 use Rattle.fetch_forecast.proofs.Step.{Kept, calm, Done, Goes, step_goes}
+use Rattle.verdict.specs.declared.Finish.TheVariants as Finish
 
 -- ---- a report among others
 
@@ -55,7 +56,7 @@ no_end_bytes : {X : Type 0} (l : List ℕ) (k : ℕ) → In (finished 3 k) (map 
 no_end_bytes [] k h = absurd h
 no_end_bytes (b ∷ l) k h = ⊎_elim (λ i. differ (sym (ap is_end i))) (λ i. no_end_bytes l k i) h
 
-in_told : (a : Answer) (d set o : List ℕ) (k : ℕ) → In (finished 3 k) (reports_for a d set o) → a ≡ A.Finished 3 k
+in_told : (a : Answer) (d set o : List ℕ) (k : ℕ) → In (finished 3 k) (reports_for a d set o) → a ≡ A.Finished Finish.Dumped k
 in_told A.Go d set o k h = absurd h
 in_told (A.Send j) d set o k h = no_end _ k refl h
 in_told (A.Image x j) d set o k h = no_end _ k refl h
@@ -150,7 +151,7 @@ module _ (c : Setting) where
       (λ (e : Decodes w.state w.table es).
       ⊎_elim
       (λ (j : In (finished 3 k) (says c w l)).
-      let a : (made definitions c w l).answer ≡ A.Finished 3 k = in_told (made definitions c w l).answer _ _ _ k j in
+      let a : (made definitions c w l).answer ≡ A.Finished Finish.Dumped k = in_told (made definitions c w l).answer _ _ _ k j in
       let q : says c w l ≡ finished 3 k ∷ [] =
       ap (λ (r : Answer). reports_for r (delivered l.delivery w.queue) (lent l.set c.set) (made definitions c w l).out) a in
       let z : y ≡ [] = all_over c ls (after c w l) (good_calm (after c w l) _ _ x.kept) (x.last k a) in

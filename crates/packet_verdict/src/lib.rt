@@ -6,7 +6,8 @@ ghost use Rattle.base.specs.Told.{Tells};
 ghost use Rattle.verdict.specs.Verdict.{on_body, verdict_of, verdict_told};
 
 use field::Width;
-use packet::{Decoded, SaharaPacketBody, sahara_parse_packet};
+use packet::{SaharaPacketBody, sahara_parse_packet};
+use refusal::Refusal;
 use verdict::{
     Opening, Verdict, on_command_ready, on_debug, on_done_resp, on_eoi, on_exec_resp, on_hello,
     on_read, on_reset_resp,
@@ -20,28 +21,19 @@ fn on_body(
     rsize: usize,
     len: u32,
     body: SaharaPacketBody,
-) -> Verdict
+) -> Result<Verdict, Refusal>
     ensures { result ≡ on_body o set.now tsize rsize len body }
 {
     match body {
-        SaharaPacketBody::HelloReq(_) => {
-            let mode = o.mode;
-            on_hello(mode, len)
-        }
+        SaharaPacketBody::HelloReq(_) => on_hello(o.mode, len),
         SaharaPacketBody::ReadReq(b) => {
             on_read(set, len, 20, b.image as u64, b.offset as u64, b.len as u64)
         }
         SaharaPacketBody::Eoi(b) => on_eoi(len, b.status),
         SaharaPacketBody::DoneResp(b) => on_done_resp(set, b.status),
         SaharaPacketBody::ResetResp => on_reset_resp(len),
-        SaharaPacketBody::CommandReady => {
-            let command = o.command;
-            on_command_ready(command, len)
-        }
-        SaharaPacketBody::ExecResp(b) => {
-            let command = b.command;
-            on_exec_resp(rsize, command, b.len)
-        }
+        SaharaPacketBody::CommandReady => on_command_ready(o.command, len),
+        SaharaPacketBody::ExecResp(b) => on_exec_resp(rsize, b.command, b.len),
         SaharaPacketBody::DebugReq(b) => on_debug(
             tsize,
             Width::Bits32,
@@ -52,23 +44,19 @@ fn on_body(
         ),
         SaharaPacketBody::Debug64Req(b) => on_debug(tsize, Width::Bits64, len, 24, b.addr, b.len),
         SaharaPacketBody::ReadData64Req(b) => on_read(set, len, 32, b.image, b.offset, b.len),
-        SaharaPacketBody::HelloResp(_) => Verdict::Refused(Refusal::HostPacket),
-        SaharaPacketBody::DoneReq => Verdict::Refused(Refusal::HostPacket),
-        SaharaPacketBody::ExecData(_) => Verdict::Refused(Refusal::HostPacket),
-        SaharaPacketBody::ReadMemReq(_) => Verdict::Refused(Refusal::HostPacket),
-        SaharaPacketBody::ReadMem64Req(_) => Verdict::Refused(Refusal::HostPacket),
+        SaharaPacketBody::HelloResp(_)
+        | SaharaPacketBody::DoneReq
+        | SaharaPacketBody::ExecData(_)
+        | SaharaPacketBody::ReadMemReq(_)
+        | SaharaPacketBody::ReadMem64Req(_) => Err(Refusal::HostPacket),
     }
 }
 
 // The verdict on a packet's bytes.
-pub fn judge(opening: Opening, set: &[u8], tsize: usize, rsize: usize, p: &[u8]) -> Verdict
+#[tactic(auto, unfolding(verdict::specs::Verdict::verdict_of))]
+pub fn judge(opening: Opening, set: &[u8], tsize: usize, rsize: usize, p: &[u8]) -> Result<Verdict, Refusal>
     ensures { Tells verdict_told result (verdict_of opening set.now tsize rsize p.now) }
 {
-    match sahara_parse_packet(p) {
-        Ok(q) => {
-            let body = q.body;
-            on_body(opening, set, tsize, rsize, q.len, body)
-        }
-        Err(why) => Verdict::Refused(why),
-    }
+    let q = sahara_parse_packet(p)?;
+    on_body(opening, set, tsize, rsize, q.len, q.body)
 }

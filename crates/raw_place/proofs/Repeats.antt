@@ -33,6 +33,8 @@ use Rattle.raw.proofs.Laws.{raw_back}
 use Rattle.in_place.specs.Place.{raw_at, waits_at, in_region, region_at, counted_at}
 use Rattle.raw_step.specs.RawStep.{raw_outcome, raw_outcome_of, step_raw, wanted_raw}
 use Rattle.raw_step.proofs.Laws.{step_formed, wanted_is}
+use Rattle.std.specs.Prelude.{Result, Ok, Err}
+use Rattle.refusal.specs.declared.Refusal.{Refusal}
 
 -- ---- numbers of a session in a region
 
@@ -68,12 +70,12 @@ wanted_none h n w p e =
 abbrev place : Region → List ℕ
 place x = x.entry ∷ x.base ∷ x.len ∷ []
 
-abbrev come_by : Region → Advance → Region
-come_by x (D.To c) = c.region
-come_by x D.Waits = x
-come_by x (D.Refused why) = x
-come_by x D.Begins = x
-come_by x D.Closes = x
+abbrev come_by : Region → Result Advance Refusal → Region
+come_by x (Ok (D.To c)) = c.region
+come_by x (Ok D.Waits) = x
+come_by x (Err why) = x
+come_by x (Ok D.Begins) = x
+come_by x (Ok D.Closes) = x
 
 module _ (v : Width) (u : Opening) (m : ℕ) (x : Region) (came : ℕ) (o : List ℕ) where
   kept_within : place (come_by x (advance_within v u m x came o).advance) ≡ place x
@@ -148,19 +150,19 @@ module _ (h n w : List ℕ) (e : in_region h n ≡ true) where
         ) refl
 
     pub counts_are : (c : Counted) (p : List ℕ)
-        → advanced (D.To c) p ≡ advance_of (width_of (get_or n 8 0)) (opening_of (get_or h 0 0) (get_or h 1 0) (get_or h 2 0)) (get_or n 0 0) (get_or n 1 0) x (length d) t o
+        → advanced (Ok (D.To c)) p ≡ advance_of (width_of (get_or n 8 0)) (opening_of (get_or h 0 0) (get_or h 1 0) (get_or h 2 0)) (get_or n 0 0) (get_or n 1 0) x (length d) t o
         → raw_outcome (stepped_at (raw_at h (counted_at n c) w) (told_of c.taken c.answer)) t y p ≡ step_raw r d set names t y o
     unfolding raw_stepped
     counts_are c p q =
         let k : place c.region ≡ place x = ap (λ (a : Advanced). place (come_by x a.advance)) q ∙ kept _ _ _ x _ o _ t in
-        ap (λ (z : RawSession). raw_outcome (stepped_at z (told_of c.taken c.answer)) t y p) (sym (raw_counted c k)) ∙ put_is (advanced (D.To c) p) q
+        ap (λ (z : RawSession). raw_outcome (stepped_at z (told_of c.taken c.answer)) t y p) (sym (raw_counted c k)) ∙ put_is (advanced (Ok (D.To c)) p) q
 
     pub waits_are : (p : List ℕ)
-        → advanced D.Waits p ≡ advance_of (width_of (get_or n 8 0)) (opening_of (get_or h 0 0) (get_or h 1 0) (get_or h 2 0)) (get_or n 0 0) (get_or n 1 0) x (length d) t o
+        → advanced (Ok D.Waits) p ≡ advance_of (width_of (get_or n 8 0)) (opening_of (get_or h 0 0) (get_or h 1 0) (get_or h 2 0)) (get_or n 0 0) (get_or n 1 0) x (length d) t o
         → raw_outcome (stepped_at r (told_of 0 A.Go)) t y p ≡ step_raw r d set names t y o
     unfolding raw_stepped
     waits_are p q =
-        ap (λ (z : RawSession). raw_outcome (stepped_at z (told_of 0 A.Go)) t y p) (sym (raw_back r is_session_lem)) ∙ put_is (advanced D.Waits p) q
+        ap (λ (z : RawSession). raw_outcome (stepped_at z (told_of 0 A.Go)) t y p) (sym (raw_back r is_session_lem)) ∙ put_is (advanced (Ok D.Waits) p) q
 
   -- no step there looks at the image set or the names: lent empty ones, it is the same
   pub lent_empty : (d set names t y o : List ℕ) → well_formed true set ≡ true → well_formed false names ≡ true
@@ -171,12 +173,12 @@ module _ (h n w : List ℕ) (e : in_region h n ≡ true) where
 
 -- ---- the premises can be met, of either width: a dump over USB with a chunk of the region done; nothing outstanding, bytes outstanding, an empty read due;
 -- and no byte came
-abbrev counts : Advance → Bool
-counts (D.To c) = true
-counts D.Waits = false
-counts (D.Refused why) = false
-counts D.Begins = false
-counts D.Closes = false
+abbrev counts : Result Advance Refusal → Bool
+counts (Ok (D.To c)) = true
+counts (Ok D.Waits) = false
+counts (Err why) = false
+counts (Ok D.Begins) = false
+counts (Ok D.Closes) = false
 
 module _ (outstanding due came width : ℕ) where
   abbrev numbers : List ℕ
@@ -185,14 +187,14 @@ module _ (outstanding due came width : ℕ) where
   abbrev head : List ℕ
   head = 2 ∷ 0xFFFFFFFF ∷ 1 ∷ 5 ∷ []
 
-  abbrev came_to : Advance
+  abbrev came_to : Result Advance Refusal
   came_to = (advance_of (width_of width) (opening_of 2 0xFFFFFFFF 1) 2 64 (region_at numbers) came (replicate 64 0) (replicate 48 0)).advance
 
   abbrev met : Bool
   met = pick (in_region head numbers) (counts came_to) false
 
 abbrev AllMet : ℕ → Type 0
-AllMet v = (met 0 0 0 v ≡ true) × (met 4096 0 1 v ≡ true) × (met 0 1 0 v ≡ true) × (came_to 4096 0 0 v ≡ D.Waits)
+AllMet v = (met 0 0 0 v ≡ true) × (met 4096 0 1 v ≡ true) × (met 0 1 0 v ≡ true) × (came_to 4096 0 0 v ≡ (Ok D.Waits))
 
 counts_met : AllMet 64 × AllMet 32
 unfolding advance_of advance_within mode_of command_of

@@ -29,6 +29,8 @@ use Rattle.region_phase.specs.Advance.{Advanced, advanced, advance_within, advan
 use Rattle.region_phase.specs.declared.Advance.{Advance}
 use Rattle.region_phase.specs.declared.Advance.TheVariants as D
 use Rattle.base.proofs.Tests.{neither}
+use Rattle.std.specs.Prelude.{Result, Ok, Err}
+use Rattle.refusal.specs.declared.Refusal.{Refusal}
 
 pub record InLimits (f k : ℕ) (x : Region) (t : List ℕ) : Type 0 where
   pub table : k ≤ length t
@@ -88,14 +90,14 @@ module _ (s : Session) (k : ℕ) (x : Region) (d t y : List ℕ) where
 
 -- ---- what is known by what it comes to
 
-left : {a b : Advance} {o p : List ℕ} → advanced a o ≡ advanced b p → p ≡ o
+left : {a b : Result Advance Refusal} {o p : List ℕ} → advanced a o ≡ advanced b p → p ≡ o
 left q = sym (ap (λ (z : Advanced). z.out) q)
 
-to : {a b : Advance} {o p : List ℕ} → advanced a o ≡ advanced b p → a ≡ b
+to : {a b : Result Advance Refusal} {o p : List ℕ} → advanced a o ≡ advanced b p → a ≡ b
 to q = ap (λ (z : Advanced). z.advance) q
 
 -- the out buffer changes only where the counts do
-module _ (v : Width) (u : Opening) (m : ℕ) (x : Region) (n : ℕ) (o : List ℕ) {a : Advance} {o' : List ℕ} (still : (c : Counted) → a ≡ D.To c → ⊥) where
+module _ (v : Width) (u : Opening) (m : ℕ) (x : Region) (n : ℕ) (o : List ℕ) {a : Result Advance Refusal} {o' : List ℕ} (still : (c : Counted) → a ≡ Ok (D.To c) → ⊥) where
   within_still : advance_within v u m x n o ≡ advanced a o' → o' ≡ o
   unfolding advance_within
   within_still q =
@@ -112,13 +114,13 @@ module _ (v : Width) (u : Opening) (m : ℕ) (x : Region) (n : ℕ) (o : List �
       (λ e. by_test (ltb (2 ^ 63 + 1) m || region_limit (field_size v) k x t) (λ l. left (rw (e, l) at q)) (λ l. within_still (rw (e, l) at q)))
 
 -- what a region's step comes to is told apart
-pub refused≢begins : (why : ℕ) → D.Refused why ≡ D.Begins → ⊥
+pub refused≢begins : (why : ℕ) → Err why ≡ Ok D.Begins → ⊥
 refused≢begins why q = let z : ◌≡◌ {A = ℕ} 0 1 = cc in omega arith
 
-pub refused≢closes : (why : ℕ) → D.Refused why ≡ D.Closes → ⊥
+pub refused≢closes : (why : ℕ) → Err why ≡ Ok D.Closes → ⊥
 refused≢closes why q = let z : ◌≡◌ {A = ℕ} 0 1 = cc in omega arith
 
-pub begins≢to : (c : Counted) → D.Begins ≡ D.To c → ⊥
+pub begins≢to : (c : Counted) → (Ok D.Begins) ≡ Ok (D.To c) → ⊥
 begins≢to c q = let z : ◌≡◌ {A = ℕ} 0 1 = cc in omega arith
 
 -- the entry behind one of the table's has a number
@@ -139,7 +141,7 @@ pub record Passed (v : Width) (m k : ℕ) (x : Region) (t o : List ℕ) : Type 0
   pub within : InLimits (field_size v) k x t
 
 pub advance_passed : (v : Width) (u : Opening) (m k : ℕ) (x : Region) (n : ℕ) (t o : List ℕ) {a : Advanced}
-    → ((why : ℕ) → advanced (D.Refused why) o ≡ a → ⊥) → advance_of v u m k x n t o ≡ a → Passed v m k x t o
+    → ((why : ℕ) → advanced (Err why) o ≡ a → ⊥) → advance_of v u m k x n t o ≡ a → Passed v m k x t o
 unfolding advance_of
 advance_passed v u m k x n t o never q =
     let r = by_else (ltb (length o) 48) _ _ (never 3) q in

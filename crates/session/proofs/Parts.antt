@@ -22,9 +22,9 @@ use Rattle.refusal.specs.declared.Refusal.TheVariants as Refusal
 module _ (s : Session) (d set names t y o : List ℕ) where
   -- what stands behind 1 and 2 in the step, by the phase
   rest : (p : Phase)
-      → pick (ltb (length o) 48) (untouched s 3 t y o)
-      (pick (is_ended p) (untouched s 4 t y o)
-      (pick (reads_limit s || phase_limit (field_size s.width) s.window p t y) (untouched s 18 t y o) (on_phase s p d set names t y o)))
+      → pick (ltb (length o) 48) (untouched s Refusal.OutBuffer t y o)
+      (pick (is_ended p) (untouched s Refusal.Ended t y o)
+      (pick (reads_limit s || phase_limit (field_size s.width) s.window p t y) (untouched s Refusal.Limit t y o) (on_phase s p d set names t y o)))
       ≡ phase_step s d set names t y o p
   unfolding packet_step response_step switched_step table_step between_step region_step
   rest (P.Packet h) = refl
@@ -36,12 +36,12 @@ module _ (s : Session) (d set names t y o : List ℕ) where
   rest (P.Ended k) = refl
 
   -- the image set is malformed
-  pub step_1 : well_formed true set ≡ false → step_of s d set names t y o ≡ untouched s 1 t y o
+  pub step_1 : well_formed true set ≡ false → step_of s d set names t y o ≡ untouched s Refusal.ImageSet t y o
   unfolding step_of
   step_1 e = rw e refl
 
   -- the names are
-  pub step_2 : well_formed true set ≡ true → well_formed false names ≡ false → step_of s d set names t y o ≡ untouched s 2 t y o
+  pub step_2 : well_formed true set ≡ true → well_formed false names ≡ false → step_of s d set names t y o ≡ untouched s Refusal.NameList t y o
   unfolding step_of
   step_2 e f = rw (e, f) refl
 

@@ -12,6 +12,7 @@ use Rattle.session.specs.declared.Answer.TheVariants as A
 use Rattle.session.specs.declared.Stepped.{Stepped}
 use Rattle.session.specs.Outcome.{in_phase, ended, region, gives}
 use Rattle.refusal.specs.declared.Refusal.{Refusal}
+use Rattle.verdict.specs.declared.Finish.TheVariants as Finish
 
 -- entry i, whose bytes are e, opened or refused by its name: 19, 20
 abbrev pub open_of : ℕ → Session → ℕ → ℕ → List ℕ → Result Unit Refusal → Stepped
@@ -24,4 +25,4 @@ between_of f s k from names t =
     let i = next_of f names t (entries_in f k - from) from in
     pick (ltb i (entries_in f k))
     (open_of f s k i (entry_of f t i) (open_check (filename_of f (entry_of f t i))))
-    (gives (ended s) 0 (A.Finished 3 s.reads))
+    (gives (ended s) 0 (A.Finished Finish.Dumped s.reads))

@@ -9,6 +9,7 @@ use Rattle.session.specs.declared.Phase.TheVariants as P
 use Rattle.session.specs.declared.Session.{Session}
 use Rattle.session.specs.declared.Answer.TheVariants as A
 use Rattle.session.specs.Outcome.{in_phase, filling, Outcome, outcome, gives}
+use Rattle.verdict.specs.declared.Finish.TheVariants as Finish
 
 -- "fill the reply buffer; while short, go; when full (length 0: without a byte) send SwitchMode; the next step finishes (4)". Of length 0 nothing is
 -- missing, so the test of "short" fails on any delivery. What stands in the buffer behind the declared length stays as it was
@@ -21,7 +22,7 @@ response_of s x d t y o =
 
 -- "the next step finishes (4)", whatever is delivered; k is the reply's length
 unfoldable pub switched_of : Session → ℕ → List ℕ → List ℕ → List ℕ → Outcome
-switched_of s k t y o = outcome (gives (in_phase s (P.Ended k)) 0 (A.Finished 4 s.reads)) t y o
+switched_of s k t y o = outcome (gives (in_phase s (P.Ended k)) 0 (A.Finished Finish.Reply s.reads)) t y o
 
 -- "fill the table buffer; each such step gives go, and length 0 takes one step without a byte". The step that takes the last byte, or that one of length 0, gives
 -- go and comes to between; the first region is opened in the step after it, which takes nothing. What stands in the buffer behind the declared length stays as it was

@@ -14,6 +14,7 @@ use Rattle.session.specs.FillingPhase.{response_of, switched_of, table_of}
 use Rattle.session.specs.BetweenPhase.{between_of}
 use Rattle.session.specs.RegionPhase.{region_of}
 use Rattle.session.specs.Limits.{reads_limit, phase_limit}
+use Rattle.refusal.specs.declared.Refusal.TheVariants as Refusal
 
 -- 18 for a session as if it were in the phase p; at its own phase it is `limit_of`
 abbrev pub limit_at : Session → Phase → List ℕ → List ℕ → Bool
@@ -21,7 +22,7 @@ limit_at s p t y = reads_limit s || phase_limit (field_size s.width) s.window p 
 
 -- 3, then 18, then x
 abbrev pub guarded : Session → Phase → List ℕ → List ℕ → List ℕ → Outcome → Outcome
-guarded s p t y o x = pick (ltb (length o) 48) (untouched s 3 t y o) (pick (limit_at s p t y) (untouched s 18 t y o) x)
+guarded s p t y o x = pick (ltb (length o) 48) (untouched s Refusal.OutBuffer t y o) (pick (limit_at s p t y) (untouched s Refusal.Limit t y o) x)
 
 unfoldable pub packet_step : Session → ℕ → List ℕ → List ℕ → List ℕ → List ℕ → List ℕ → Outcome
 packet_step s h d set t y o = guarded s (P.Packet h) t y o (packet_of s h d set t y o)
@@ -51,4 +52,4 @@ module _ (s : Session) (d set names t y o : List ℕ) where
   phase_step (P.Table x) = table_step s x d t y o
   phase_step (P.Between k i) = between_step s k i names t y o
   phase_step (P.Region k x) = region_step s k x d t y o
-  phase_step (P.Ended k) = pick (ltb (length o) 48) (untouched s 3 t y o) (untouched s 4 t y o)
+  phase_step (P.Ended k) = pick (ltb (length o) 48) (untouched s Refusal.OutBuffer t y o) (untouched s Refusal.Ended t y o)

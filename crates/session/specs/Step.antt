@@ -31,11 +31,11 @@ on_phase s (P.Ended k) d set names t y o = outcome (gives s 0 (A.Refused Refusal
 -- session, delivery, image set, names, table, reply and out buffers. "Where several apply, the first written here is given": 1, 2, 3, 4, 18, the phase
 unfoldable pub step_of : Session → List ℕ → List ℕ → List ℕ → List ℕ → List ℕ → List ℕ → Outcome
 step_of s d set names t y o =
-    pick (not (well_formed true set)) (untouched s 1 t y o)
-    (pick (not (well_formed false names)) (untouched s 2 t y o)
-    (pick (ltb (length o) 48) (untouched s 3 t y o)
-    (pick (is_ended s.phase) (untouched s 4 t y o)
-    (pick (limit_of s t y) (untouched s 18 t y o) (on_phase s s.phase d set names t y o)))))
+    pick (not (well_formed true set)) (untouched s Refusal.ImageSet t y o)
+    (pick (not (well_formed false names)) (untouched s Refusal.NameList t y o)
+    (pick (ltb (length o) 48) (untouched s Refusal.OutBuffer t y o)
+    (pick (is_ended s.phase) (untouched s Refusal.Ended t y o)
+    (pick (limit_of s t y) (untouched s Refusal.Limit t y o) (on_phase s s.phase d set names t y o)))))
 
 -- "Channel closed: 4, else 23, session ended."
 abbrev pub closed_of : Session → Stepped

@@ -23,6 +23,7 @@ use Rattle.session.specs.Outcome.{Outcome, outcome, gives, untouched}
 use Rattle.session.specs.Limits.{reads_limit, phase_limit}
 use Rattle.session.specs.Guard.{limit_at, guarded}
 use Rattle.turn.specs.Turn.{refusal_of}
+use Rattle.refusal.specs.declared.Refusal.TheVariants as Refusal
 
 -- no number is given: neither test holds
 none : (a b : Bool) → ◌≡◌ {A = ℕ} (pick a 3 (pick b 18 0)) 0 → (a ≡ false) × (b ≡ false)
@@ -47,7 +48,7 @@ passed s limited o e z =
 -- the phase p with its guard: x behind it
 module _ (s : Session) (p : Phase) (t y o : List ℕ) (x : Outcome) where
   by_number : (a b : Bool) (n : ℕ) → n ≡ pick a 3 (pick b 18 0)
-      → pick (eqb n 0) x (untouched s n t y o) ≡ pick a (untouched s 3 t y o) (pick b (untouched s 18 t y o) x)
+      → pick (eqb n 0) x (untouched s n t y o) ≡ pick a (untouched s Refusal.OutBuffer t y o) (pick b (untouched s Refusal.Limit t y o) x)
   by_number true b n e = rw e refl
   by_number false true n e = rw e refl
   by_number false false n e = rw e refl

@@ -81,31 +81,31 @@ module _ (s : Session) (d t y o : List ℕ) where
   -- ---- a verdict: what is seen is the verdict, where an image starts aside, and the image's bytes
 
   module _ (n : ℕ) (w : List ℕ) where
-    abbrev reports_with : Verdict → List ℕ → List Report
-    reports_with (W.Reply q) p = reports_for (acted s n w t y o (W.Reply q)).stepped.answer d [] (acted s n w t y o (W.Reply q)).out
-    reports_with (W.Image x k) p = image p ∷ []
-    reports_with W.Pass p = []
-    reports_with (W.Finish how) p = reports_for (acted s n w t y o (W.Finish how)).stepped.answer d [] o
-    reports_with (W.Respond c k) p = reports_for (acted s n w t y o (W.Respond c k)).stepped.answer d [] (acted s n w t y o (W.Respond c k)).out
-    reports_with (W.Debug v a k) p = reports_for (acted s n w t y o (W.Debug v a k)).stepped.answer d [] (acted s n w t y o (W.Debug v a k)).out
-    reports_with (W.Refused why) p = []
+    abbrev reports_with : Result Verdict Refusal → List ℕ → List Report
+    reports_with (Ok (W.Reply q)) p = reports_for (acted s n w t y o (Ok (W.Reply q))).stepped.answer d [] (acted s n w t y o (Ok (W.Reply q))).out
+    reports_with (Ok (W.Image x k)) p = image p ∷ []
+    reports_with (Ok W.Pass) p = []
+    reports_with (Ok (W.Finish how)) p = reports_for (acted s n w t y o (Ok (W.Finish how))).stepped.answer d [] o
+    reports_with (Ok (W.Respond c k)) p = reports_for (acted s n w t y o (Ok (W.Respond c k))).stepped.answer d [] (acted s n w t y o (Ok (W.Respond c k))).out
+    reports_with (Ok (W.Debug v a k)) p = reports_for (acted s n w t y o (Ok (W.Debug v a k))).stepped.answer d [] (acted s n w t y o (Ok (W.Debug v a k))).out
+    reports_with (Err why) p = []
 
-    abbrev seen_with : Verdict → List ℕ → Seen Session
+    abbrev seen_with : Result Verdict Refusal → List ℕ → Seen Session
     seen_with v p = record { given = given_of (acted s n w t y o v); reports = reports_with v p }
 
-    acted_seen : (set : List ℕ) (v : Verdict) → look set (acted s n w t y o v) ≡ seen_with (verdict_aside v) (verdict_bytes set v)
-    acted_seen set (W.Reply q) = refl
-    acted_seen set (W.Image x k) = refl
-    acted_seen set W.Pass = refl
-    acted_seen set (W.Finish how) = refl
-    acted_seen set (W.Respond c k) = refl
-    acted_seen set (W.Debug v a k) = refl
-    acted_seen set (W.Refused why) = refl
+    acted_seen : (set : List ℕ) (v : Result Verdict Refusal) → look set (acted s n w t y o v) ≡ seen_with (verdict_aside v) (verdict_bytes set v)
+    acted_seen set (Ok (W.Reply q)) = refl
+    acted_seen set (Ok (W.Image x k)) = refl
+    acted_seen set (Ok W.Pass) = refl
+    acted_seen set (Ok (W.Finish how)) = refl
+    acted_seen set (Ok (W.Respond c k)) = refl
+    acted_seen set (Ok (W.Debug v a k)) = refl
+    acted_seen set (Err why) = refl
 
-    acted_alike : (a b : List ℕ) (v v' : Verdict) → VerdictsAlike a b v v' → look a (acted s n w t y o v) ≡ look b (acted s n w t y o v')
+    acted_alike : (a b : List ℕ) (v v' : Result Verdict Refusal) → VerdictsAlike a b v v' → look a (acted s n w t y o v) ≡ look b (acted s n w t y o v')
     acted_alike a b v v' e =
         acted_seen a v
-        ∙ ap (λ (x : Verdict). seen_with x (verdict_bytes a v)) e.aside
+        ∙ ap (λ (x : Result Verdict Refusal). seen_with x (verdict_bytes a v)) e.aside
         ∙ ap (seen_with (verdict_aside v')) e.bytes
         ∙ sym (acted_seen b v')
 

@@ -26,26 +26,26 @@ use Rattle.packet.specs.declared.SaharaPacket.{SaharaPacket}
 use Rattle.command.specs.declared.SaharaCmdModeCmd.{SaharaCmdModeCmd}
 
 -- where an image starts aside
-abbrev pub verdict_aside : Verdict → Verdict
-verdict_aside (W.Reply q) = W.Reply q
-verdict_aside (W.Image x k) = W.Image 0 k
-verdict_aside W.Pass = W.Pass
-verdict_aside (W.Finish how) = W.Finish how
-verdict_aside (W.Respond c k) = W.Respond c k
-verdict_aside (W.Debug v a k) = W.Debug v a k
-verdict_aside (W.Refused why) = W.Refused why
+abbrev pub verdict_aside : Result Verdict Refusal → Result Verdict Refusal
+verdict_aside (Ok (W.Reply q)) = Ok (W.Reply q)
+verdict_aside (Ok (W.Image x k)) = Ok (W.Image 0 k)
+verdict_aside (Ok W.Pass) = Ok W.Pass
+verdict_aside (Ok (W.Finish how)) = Ok (W.Finish how)
+verdict_aside (Ok (W.Respond c k)) = Ok (W.Respond c k)
+verdict_aside (Ok (W.Debug v a k)) = Ok (W.Debug v a k)
+verdict_aside (Err why) = Err why
 
 -- the image's bytes
-abbrev pub verdict_bytes : List ℕ → Verdict → List ℕ
-verdict_bytes set (W.Reply q) = []
-verdict_bytes set (W.Image x k) = take k (drop x set)
-verdict_bytes set W.Pass = []
-verdict_bytes set (W.Finish how) = []
-verdict_bytes set (W.Respond c k) = []
-verdict_bytes set (W.Debug v a k) = []
-verdict_bytes set (W.Refused why) = []
+abbrev pub verdict_bytes : List ℕ → Result Verdict Refusal → List ℕ
+verdict_bytes set (Ok (W.Reply q)) = []
+verdict_bytes set (Ok (W.Image x k)) = take k (drop x set)
+verdict_bytes set (Ok W.Pass) = []
+verdict_bytes set (Ok (W.Finish how)) = []
+verdict_bytes set (Ok (W.Respond c k)) = []
+verdict_bytes set (Ok (W.Debug v a k)) = []
+verdict_bytes set (Err why) = []
 
-pub record VerdictsAlike (a b : List ℕ) (v v' : Verdict) : Type 0 where
+pub record VerdictsAlike (a b : List ℕ) (v v' : Result Verdict Refusal) : Type 0 where
   pub aside : verdict_aside v ≡ verdict_aside v'
   pub bytes : verdict_bytes a v ≡ verdict_bytes b v'
 
@@ -71,7 +71,7 @@ module _ (set : List ℕ) where
 
   module _ (u : Opening) (tsize rsize : ℕ) where
     -- no image's
-    abbrev Bare : Verdict → Type 0
+    abbrev Bare : Result Verdict Refusal → Type 0
     Bare v = verdict_bytes set v ≡ []
 
     execute_bare : (c : Option SaharaCmdModeCmd) → Bare (execute_for c)

@@ -30,6 +30,7 @@ use Rattle.two_runs.proofs.Theorem.{serves_alike}
 use Rattle.two_runs_raw.proofs.Raw.{serves_alike_raw}
 use Rattle.std.specs.Prelude.{None, Ok}
 use Rattle.refusal.specs.declared.Refusal.TheVariants as Refusal
+use Rattle.verdict.specs.declared.Finish.TheVariants as Finish
 
 abbrev pub mark : ℕ
 mark = 0xFFFFFFFF
@@ -109,13 +110,13 @@ alike_raw = serves_alike_raw by_turns setting form is_form (start (calling by_tu
 
 -- ---- from one slot: the DoneResp finishes, so the run is another
 
-dropped_served : answers (seen_in definitions (with_set setting dropped) (start definitions setting) steps) ≡ A.Image 0 4 ∷ A.Finished 1 0 ∷ A.Refused Refusal.Ended ∷ []
+dropped_served : answers (seen_in definitions (with_set setting dropped) (start definitions setting) steps) ≡ A.Image 0 4 ∷ A.Finished Finish.ImagesSent 0 ∷ A.Refused Refusal.Ended ∷ []
 unfolding step_of limit_of packet_of sized_of whole_of verdict_of decode_of class_of kinds kind_of well_formed slots_good slot_of le le_bytes fields
 dropped_served = refl
 
 pub dropped_differs : RunsAlike definitions setting dropped (start definitions setting) steps → ⊥
 dropped_differs x =
-    let e : A.Image 0 4 ∷ A.Go ∷ A.Refused Refusal.NoImage ∷ [] ≡ A.Image 0 4 ∷ A.Finished 1 0 ∷ A.Refused Refusal.Ended ∷ [] =
+    let e : A.Image 0 4 ∷ A.Go ∷ A.Refused Refusal.NoImage ∷ [] ≡ A.Image 0 4 ∷ A.Finished Finish.ImagesSent 0 ∷ A.Refused Refusal.Ended ∷ [] =
     sym served ∙ ap answers x.steps ∙ dropped_served in
     let z : ◌≡◌ {A = ℕ} 0 1 = cc in
     omega arith

@@ -14,8 +14,9 @@ use Rattle.packet.specs.declared.SaharaPacketBody.TheVariants as B
 use Rattle.verdict.specs.Verdict.{on_body, on_decoded, verdict_of}
 use Rattle.verdict.specs.declared.Opening.{Opening}
 use Rattle.verdict.specs.declared.Verdict.{Verdict}
-use Rattle.verdict.specs.declared.Verdict.TheVariants as W
 use Rattle.refusal.specs.declared.Refusal.TheVariants as Refusal
+use Rattle.std.specs.Prelude.{Result, Err}
+use Rattle.refusal.specs.declared.Refusal.{Refusal}
 
 -- the length field is not the one that the kind must have. Of DoneResp and ExecuteResp any good length is, and what only a host sends is refused for its kind
 abbrev wrong_length : ℕ → SaharaPacketBody → Bool
@@ -35,7 +36,7 @@ wrong_length len (B.Debug64Req b) = not (eqb len 24)
 wrong_length len (B.ReadMem64Req b) = false
 wrong_length len (B.ReadData64Req b) = not (eqb len 32)
 
-refused : (right : Bool) (v : Verdict) → not right ≡ true → pick right v (W.Refused Refusal.KindLength) ≡ W.Refused Refusal.KindLength
+refused : (right : Bool) (v : Result Verdict Refusal) → not right ≡ true → pick right v (Err Refusal.KindLength) ≡ Err Refusal.KindLength
 refused true v e = absurd (true≢false (sym e))
 refused false v e = refl
 
@@ -51,7 +52,7 @@ module _ (u : Opening) (set : List ℕ) (tsize rsize : ℕ) where
     hello_any b c = refl
 
     -- 11 comes before all that the body could be refused for
-    length_first : (b : SaharaPacketBody) → wrong_length len b ≡ true → on_body u set tsize rsize len b ≡ W.Refused Refusal.KindLength
+    length_first : (b : SaharaPacketBody) → wrong_length len b ≡ true → on_body u set tsize rsize len b ≡ Err Refusal.KindLength
     length_first (B.HelloReq b) e = refused (eqb len 48) _ e
     length_first (B.HelloResp b) e = absurd (true≢false (sym e))
     length_first (B.ReadReq b) e = refused (eqb len 20) _ e

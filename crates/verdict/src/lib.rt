@@ -4,6 +4,7 @@
 ghost use Rattle.std.specs.Prelude.{◌≡◌};
 ghost use Rattle.image.specs.Image.{range_unjudged};
 ghost use Rattle.verdict.specs.Verdict.{
+  finish_number,
   exactly,
   image_for,
   end_for,
@@ -16,29 +17,47 @@ ghost use Rattle.verdict.specs.Verdict.{
 use build::Request;
 use command::{SaharaCmdModeCmd, SaharaMode};
 use field::{Width, u32_padded};
-use image::{ImageId, ImageRange, image_range_unjudged};
+use image::{ImageId, image_range_unjudged};
+use refusal::Refusal;
 
-#[derive(Clone, Copy)]
+#[derive(Clone, Copy, Debug, PartialEq, Eq)]
 pub enum QdlBackend {
     Serial,
     Usb,
 }
 
-// The command that a session is opened with, or none.
-#[derive(Clone, Copy)]
-pub enum ExecCommand {
-    Is(SaharaCmdModeCmd),
-    None,
+// How a session finishes: the device has its images, it resets itself, its memory is dumped, its reply is there.
+#[derive(Clone, Copy, Debug, PartialEq, Eq)]
+pub enum Finish {
+    ImagesSent,
+    Reset,
+    Dumped,
+    Reply,
+}
+
+impl From<Finish> for u8 {
+    ghost from_gives = { λ how n. n ≡ finish_number how };
+
+    fn from(how: Finish) -> u8 {
+        match how {
+            Finish::ImagesSent => 1,
+            Finish::Reset => 2,
+            Finish::Dumped => 3,
+            Finish::Reply => 4,
+        }
+    }
 }
 
 // What a session is opened with.
 #[derive(Clone, Copy)]
 pub struct Opening {
     pub mode: SaharaMode,
+    // to be executed, or none
     pub command: Option<SaharaCmdModeCmd>,
     pub backend: QdlBackend,
 }
 
+// What a packet that is not refused asks for.
 #[derive(Clone, Copy)]
 pub enum Verdict {
     // a packet to send
@@ -48,104 +67,99 @@ pub enum Verdict {
     // nothing
     Pass,
     // the end
-    Finish(u8),
+    Finish(Finish),
     // a response of so many bytes to this command is to come
     Respond(SaharaCmdModeCmd, usize),
     // the table, of this width, stands at this address and has so many bytes
     Debug(Width, u64, u64),
-    Refused(Refusal),
 }
 
 // A hello is answered with the session's mode.
-pub fn on_hello(mode: SaharaMode, len: u32) -> Verdict
-    ensures { result ≡ exactly len 48 (Verdict.Reply (Request.HelloResp mode)) }
+pub fn on_hello(mode: SaharaMode, len: u32) -> Result<Verdict, Refusal>
+    ensures { result ≡ exactly len 48 (Ok (Verdict.Reply (Request.HelloResp mode))) }
 {
     if len != 48 {
-        return Verdict::Refused(Refusal::KindLength);
+        return Err(Refusal::KindLength);
     }
-    Verdict::Reply(Request::HelloResp(mode))
+    Ok(Verdict::Reply(Request::HelloResp(mode)))
 }
 
 // A read of either width, whose packet is to be `exact` bytes long. The set is not judged: a step has checked it before.
-pub fn on_read(set: &[u8], len: u32, exact: u32, image: u64, offset: u64, count: u64) -> Verdict
+pub fn on_read(set: &[u8], len: u32, exact: u32, image: u64, offset: u64, count: u64) -> Result<Verdict, Refusal>
     ensures { result ≡ exactly len exact (image_for (range_unjudged set.now image offset count)) }
 {
     if len != exact {
-        return Verdict::Refused(Refusal::KindLength);
+        return Err(Refusal::KindLength);
     }
-    match image_range_unjudged(set, ImageId(image), offset, count) {
-        Ok((start, k)) => Verdict::Image(start, k),
-        Err(why) => Verdict::Refused(why),
-    }
+    let (start, k) = image_range_unjudged(set, ImageId(image), offset, count)?;
+    Ok(Verdict::Image(start, k))
 }
 
-pub fn on_eoi(len: u32, status: u32) -> Verdict
+pub fn on_eoi(len: u32, status: u32) -> Result<Verdict, Refusal>
     ensures { result ≡ exactly len 16 (end_for status) }
 {
     if len != 16 {
-        return Verdict::Refused(Refusal::KindLength);
+        return Err(Refusal::KindLength);
     }
     if status != 0 {
-        return Verdict::Refused(Refusal::ImageStatus);
+        return Err(Refusal::ImageStatus);
     }
-    Verdict::Reply(Request::Done)
+    Ok(Verdict::Reply(Request::Done))
 }
 
-pub fn on_done_resp(set: &[u8], status: u32) -> Verdict
+pub fn on_done_resp(set: &[u8], status: u32) -> Result<Verdict, Refusal>
     ensures { result ≡ done_for set.now status }
 {
     if status == 1 {
-        return Verdict::Finish(1);
+        return Ok(Verdict::Finish(Finish::ImagesSent));
     }
     if u32_padded(set, 0) == 1 {
-        return Verdict::Finish(1);
+        return Ok(Verdict::Finish(Finish::ImagesSent));
     }
-    Verdict::Pass
+    Ok(Verdict::Pass)
 }
 
-pub fn on_reset_resp(len: u32) -> Verdict
-    ensures { result ≡ exactly len 8 (Verdict.Finish 2) }
+pub fn on_reset_resp(len: u32) -> Result<Verdict, Refusal>
+    ensures { result ≡ exactly len 8 (Ok (Verdict.Finish Finish.Reset)) }
 {
     if len != 8 {
-        return Verdict::Refused(Refusal::KindLength);
+        return Err(Refusal::KindLength);
     }
-    Verdict::Finish(2)
+    Ok(Verdict::Finish(Finish::Reset))
 }
 
-pub fn on_command_ready(command: Option<SaharaCmdModeCmd>, len: u32) -> Verdict
+pub fn on_command_ready(command: Option<SaharaCmdModeCmd>, len: u32) -> Result<Verdict, Refusal>
     ensures { result ≡ exactly len 8 (execute_for command) }
 {
     if len != 8 {
-        return Verdict::Refused(Refusal::KindLength);
+        return Err(Refusal::KindLength);
     }
-    match command {
-        Some(c) => Verdict::Reply(Request::Execute(c)),
-        None => Verdict::Refused(Refusal::NoCommand),
-    }
+    let c = command.ok_or(Refusal::NoCommand)?;
+    Ok(Verdict::Reply(Request::Execute(c)))
 }
 
-pub fn on_exec_resp(rsize: usize, command: SaharaCmdModeCmd, count: u32) -> Verdict
+pub fn on_exec_resp(rsize: usize, command: SaharaCmdModeCmd, count: u32) -> Result<Verdict, Refusal>
     ensures { result ≡ response_for rsize command count }
 {
     let k = count as usize;
     if rsize < k {
-        return Verdict::Refused(Refusal::ResponseLength);
+        return Err(Refusal::ResponseLength);
     }
-    Verdict::Respond(command, k)
+    Ok(Verdict::Respond(command, k))
 }
 
 // A memory debug of either width, whose packet is to be `exact` bytes long.
-pub fn on_debug(tsize: usize, width: Width, len: u32, exact: u32, addr: u64, count: u64) -> Verdict
+pub fn on_debug(tsize: usize, width: Width, len: u32, exact: u32, addr: u64, count: u64) -> Result<Verdict, Refusal>
     ensures { result ≡ exactly len exact (table_for tsize width addr count) }
 {
     if len != exact {
-        return Verdict::Refused(Refusal::KindLength);
+        return Err(Refusal::KindLength);
     }
     if 65536 < count {
-        return Verdict::Refused(Refusal::TableLength);
+        return Err(Refusal::TableLength);
     }
     if tsize < count as usize {
-        return Verdict::Refused(Refusal::TableLength);
+        return Err(Refusal::TableLength);
     }
-    Verdict::Debug(width, addr, count)
+    Ok(Verdict::Debug(width, addr, count))
 }

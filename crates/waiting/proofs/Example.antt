@@ -28,6 +28,7 @@ use Rattle.waiting.specs.Window.{packet_over, StepLent}
 use Rattle.waiting.proofs.Waiting.{waits, waits_only, wanted_needs, takes_all}
 use Rattle.waiting.proofs.Window.{completes_whole, after, holds_run, judged_whole}
 use Rattle.std.specs.Prelude.{None}
+use Rattle.verdict.specs.declared.Finish.TheVariants as Finish
 
 abbrev debugging : Opening
 debugging = record { mode = M.MemoryDebug; command = None; backend = U.Usb }
@@ -111,6 +112,6 @@ completed =
     completes_whole (after debugging parts).session (take 55 done) none none buffer buffer buffer 55 (holds_run debugging parts) refl refl refl (lit≤ tt)
     (drop 55 done) 5 refl refl (lit≤ tt)
 
-ends : (packet_over (after debugging parts).session (take 55 done) (drop 55 done) none buffer buffer buffer).stepped.answer ≡ A.Finished 1 0
+ends : (packet_over (after debugging parts).session (take 55 done) (drop 55 done) none buffer buffer buffer).stepped.answer ≡ A.Finished Finish.ImagesSent 0
 unfolding packet_over step_of limit_of packet_of sized_of well_formed slots_good verdict_of decode_of class_of kinds kind_of fields le le_bytes
 ends = refl

@@ -85,14 +85,14 @@ module _ (s : Session) (b d set names t y o : List ℕ) (g : HoldsBytes s b) whe
         let e : take (length (b ++ d)) w ≡ take 48 (b ++ d) = rw length-append (keep_same s.window b d g.size same) in
         record { size = full; count = rw (m, take-length) refl; same = rw (m, take-length) e; fresh = (l, none) })
 
-    acted_holds : (n : ℕ) (w : List ℕ) (v : Verdict) → length w ≡ 48 → Keeps (acted s n w t y o v)
-    acted_holds n w (W.Reply q) e = free _ n refl e (refl, none)
-    acted_holds n w (W.Image x k) e = free _ n refl e (refl, none)
-    acted_holds n w W.Pass e = free _ n refl e (refl, none)
-    acted_holds n w (W.Finish how) e = free _ n refl g.size tt
-    acted_holds n w (W.Respond c k) e = free _ n refl e tt
-    acted_holds n w (W.Debug v a k) e = free _ n refl e tt
-    acted_holds n w (W.Refused why) e = free _ n refl g.size tt
+    acted_holds : (n : ℕ) (w : List ℕ) (v : Result Verdict Refusal) → length w ≡ 48 → Keeps (acted s n w t y o v)
+    acted_holds n w (Ok (W.Reply q)) e = free _ n refl e (refl, none)
+    acted_holds n w (Ok (W.Image x k)) e = free _ n refl e (refl, none)
+    acted_holds n w (Ok W.Pass) e = free _ n refl e (refl, none)
+    acted_holds n w (Ok (W.Finish how)) e = free _ n refl g.size tt
+    acted_holds n w (Ok (W.Respond c k)) e = free _ n refl e tt
+    acted_holds n w (Ok (W.Debug v a k)) e = free _ n refl e tt
+    acted_holds n w (Err why) e = free _ n refl g.size tt
 
     over_holds : Keeps (packet_over s b d set t y o)
     unfolding packet_over

@@ -43,6 +43,7 @@ use Rattle.waiting.specs.Waiting.{InOrder}
 use Rattle.field.proofs.Laws.{le_same}
 use Rattle.std.specs.Prelude.{Result, Ok, Err}
 use Rattle.refusal.specs.declared.Refusal.{Refusal}
+use Rattle.refusal.specs.declared.Refusal.TheVariants as Refusal
 
 -- ---- the window
 
@@ -75,7 +76,7 @@ eight_or_more n e = by_test (ltb n 8) (λ m. differ (sym (rw m at e))) (λ m. lt
 
 -- the ended one too
 ended_phase : (s : Session) (p : Phase) (d set names t y o : List ℕ)
-    → pick (is_ended p) (untouched s 4 t y o) (on_phase s p d set names t y o) ≡ on_phase s p d set names t y o
+    → pick (is_ended p) (untouched s Refusal.Ended t y o) (on_phase s p d set names t y o) ≡ on_phase s p d set names t y o
 ended_phase s (P.Packet h) d set names t y o = refl
 ended_phase s (P.Response x) d set names t y o = refl
 ended_phase s (P.Switched k) d set names t y o = refl
@@ -270,14 +271,14 @@ module _ (s : Session) (full : length s.window ≡ 48) (d set names t y o : List
   abbrev All : Outcome → Type 0
   All r = r.stepped.taken ≡ length d
 
-  acted_takes : (n : ℕ) (w : List ℕ) (v : Verdict) → (acted s n w t y o v).stepped.taken ≡ n
-  acted_takes n w (W.Reply q) = refl
-  acted_takes n w (W.Image x k) = refl
-  acted_takes n w W.Pass = refl
-  acted_takes n w (W.Finish how) = refl
-  acted_takes n w (W.Respond c k) = refl
-  acted_takes n w (W.Debug v a k) = refl
-  acted_takes n w (W.Refused why) = refl
+  acted_takes : (n : ℕ) (w : List ℕ) (v : Result Verdict Refusal) → (acted s n w t y o v).stepped.taken ≡ n
+  acted_takes n w (Ok (W.Reply q)) = refl
+  acted_takes n w (Ok (W.Image x k)) = refl
+  acted_takes n w (Ok W.Pass) = refl
+  acted_takes n w (Ok (W.Finish how)) = refl
+  acted_takes n w (Ok (W.Respond c k)) = refl
+  acted_takes n w (Ok (W.Debug v a k)) = refl
+  acted_takes n w (Err why) = refl
 
   -- size is the packet's length: at the eighth byte it is refused, or all that came is of the packet
   takes_sized : (h size : ℕ) → (bad_length size ≡ true → 8 - h ≡ length d) → (bad_length size ≡ false → length d ≤ size - h)

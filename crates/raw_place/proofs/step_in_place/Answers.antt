@@ -22,6 +22,8 @@ use Rattle.raw_step.specs.RawStep.{raw_outcome, step_raw}
 use Rattle.raw_place.proofs.Repeats.{no, counts_are, waits_are, lent_empty}
 use Rattle.raw_place.proofs.step_in_place.Goals as goal
 use Rattle.raw_place.proofs.step_in_place.Goals.{After-advance_region-a}
+use Rattle.std.specs.Prelude.{Result, Ok}
+use Rattle.refusal.specs.declared.Refusal.{Refusal}
 
 -- the out buffer behind the step over the counts
 abbrev after : After-advance_region-a → List ℕ
@@ -36,7 +38,7 @@ in-region c =
     (p.0, by_then (well_formed true a.set.now) _ _ no p.1)
 
 -- and what was come to is the definition's
-come-to : (c : After-advance_region-a) (v : Advance) → c.advance_region-a.result ≡ v → (let a = c.args in
+come-to : (c : After-advance_region-a) (v : Result Advance Refusal) → c.advance_region-a.result ≡ v → (let a = c.args in
     let n = a.numbers.now in
     advanced v (after c)
     ≡ advance_of (width_of (get_or n 8 0)) (opening_of (get_or a.head.now 0 0) (get_or a.head.now 1 0) (get_or a.head.now 2 0))
@@ -47,7 +49,7 @@ come-to c v e =
     let h = a.head.now in
     let x = c.region_at-x.result in
     let m = length a.delivery.now in
-    ap (λ (z : Advance). advanced z (after c)) (sym e)
+    ap (λ (z : Result Advance Refusal). advanced z (after c)) (sym e)
     ∙ c.advance_region-a.ensures
     ∙ ap (λ (z : Width). advance_of z c.opening_of-opening.result (get_or n 0 0) (get_or n 1 0) x m a.table.now a.out.now)
     c.width_of-width.ensures
@@ -77,7 +79,7 @@ returns-in-To c =
           c.count-t.ensures.1
           ∙ counts_are a.head.now a.numbers.now a.window.now r.0
           a.delivery.now a.set.now a.names.now a.table.now a.reply.now a.out.now r.1.0 r.1.1
-          k (after g) (come-to g (D.To k) c.in-To.is),
+          k (after g) (come-to g (Ok (D.To k)) c.in-To.is),
       c.placed-in-To.ensures.1,
     )
 
@@ -90,7 +92,7 @@ returns-in-Waits c =
           (c.placed-in-Waits.ensures.0 ∙ c.told-t.ensures)
           ∙ waits_are a.head.now a.numbers.now a.window.now r.0
           a.delivery.now a.set.now a.names.now a.table.now a.reply.now a.out.now r.1.0 r.1.1
-          (after g) (come-to g D.Waits c.in-Waits.is),
+          (after g) (come-to g (Ok D.Waits) c.in-Waits.is),
       c.placed-in-Waits.ensures.1,
     )
 
@@ -101,8 +103,8 @@ returns c =
     let n = a.numbers.now in
     let h = a.head.now in
     let w = a.window.now in
-    let v : Advance = c.advance_region-a.result in
-    let still : (k : Counted) → v ≡ D.To k → ⊥ = c.in_default.not-To in
+    let v : Result Advance Refusal = c.advance_region-a.result in
+    let still : (k : Counted) → v ≡ Ok (D.To k) → ⊥ = c.in_default.not-To in
     let o : after g ≡ a.out.now =
     advance_still (width_of (get_or n 8 0)) (opening_of (get_or h 0 0) (get_or h 1 0) (get_or h 2 0)) (get_or n 0 0) (region_at n) (length a.delivery.now) a.out.now still
     (get_or n 1 0) a.table.now (sym (come-to g v refl)) in

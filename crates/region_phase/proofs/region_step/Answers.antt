@@ -25,13 +25,15 @@ use Rattle.region_phase.proofs.Laws.{
 }
 use Rattle.region_phase.proofs.region_step.Goals as goal
 use Rattle.region_phase.proofs.region_step.Goals.{After-advance_region-a}
+use Rattle.std.specs.Prelude.{Result, Ok, Err}
+use Rattle.refusal.specs.declared.Refusal.{Refusal}
 
 -- the out buffer behind the step over the counts
 abbrev after : After-advance_region-a → List ℕ
 after g = g.advance_region-a.new.out
 
 -- put into the session, what it came to is the step
-put_is : (g : After-advance_region-a) (v : Advance) → g.advance_region-a.result ≡ v → (let a = g.args in
+put_is : (g : After-advance_region-a) (v : Result Advance Refusal) → g.advance_region-a.result ≡ v → (let a = g.args in
     on_advance a.s a.k a.x a.table.now a.reply.now (after g) v
     ≡ region_step a.s a.k a.x a.delivery.now a.table.now a.reply.now a.out.now)
 put_is g v e =
@@ -41,7 +43,7 @@ put_is g v e =
     ∙ sym (advance_is a.s a.k a.x a.delivery.now a.table.now a.reply.now a.out.now)
 
 -- what is begun or closed is not refused
-passed : (g : After-advance_region-a) (v : Advance) → g.advance_region-a.result ≡ v → ((why : ℕ) → D.Refused why ≡ v → ⊥)
+passed : (g : After-advance_region-a) (v : Result Advance Refusal) → g.advance_region-a.result ≡ v → ((why : ℕ) → Err why ≡ v → ⊥)
     → (let a = g.args in Passed a.s.width a.s.reads a.k a.x a.table.now a.out.now)
 passed g v e never =
     let a = g.args in
@@ -54,10 +56,10 @@ begin_region-requires c =
     let g = c in
     let a = c.args in
     let e = s.in-Begins.is in
-    let p = passed (goal.at.begin_region-requires c).After-advance_region-a D.Begins e refused≢begins in
+    let p = passed (goal.at.begin_region-requires c).After-advance_region-a (Ok D.Begins) e refused≢begins in
     let h : after (goal.at.begin_region-requires c).After-advance_region-a ≡ a.out.now =
     advance_still a.s.width a.s.opening a.s.reads a.x (length a.delivery.now) a.out.now begins≢to
-    a.k a.table.now (sym g.advance_region-a.ensures ∙ ap (λ (z : Advance). advanced z (after (goal.at.begin_region-requires c).After-advance_region-a)) e) in
+    a.k a.table.now (sym g.advance_region-a.ensures ∙ ap (λ (z : Result Advance Refusal). advanced z (after (goal.at.begin_region-requires c).After-advance_region-a)) e) in
     let w = p.within in
     let room = subst (λ (z : List ℕ). 48 ≤ length z) (sym h) p.room in
     (room, entry_within (field_size a.s.width) a.k a.x.entry a.table.now w.entry w.table, p.reads)
@@ -66,7 +68,7 @@ pub close-requires : goal.close-requires
 close-requires c =
     let g = c in
     let a = c.args in
-    let p = passed (goal.at.close-requires c).After-advance_region-a D.Closes c.in-Closes.is refused≢closes in
+    let p = passed (goal.at.close-requires c).After-advance_region-a (Ok D.Closes) c.in-Closes.is refused≢closes in
     next_fits (field_size a.s.width) a.k a.x.entry p.within.entry c.ranges.k
 
 pub returns-in-Refused : goal.returns-in-Refused
@@ -75,7 +77,7 @@ returns-in-Refused c =
     let a = c.args in
     tells outcome_told
     (ap (λ (r : Stepped). outcome r a.table.now a.reply.now (after (goal.at.returns-in-Refused c).After-advance_region-a)) c.untouched.ensures
-    ∙ put_is (goal.at.returns-in-Refused c).After-advance_region-a (D.Refused _) c.in-Refused.is)
+    ∙ put_is (goal.at.returns-in-Refused c).After-advance_region-a (Err _) c.in-Refused.is)
 
 pub returns-in-Waits : goal.returns-in-Waits
 returns-in-Waits c =
@@ -83,7 +85,7 @@ returns-in-Waits c =
     let a = c.args in
     tells outcome_told
     (ap (λ (r : Stepped). outcome r a.table.now a.reply.now (after (goal.at.returns-in-Waits c).After-advance_region-a)) c.waits.ensures
-    ∙ put_is (goal.at.returns-in-Waits c).After-advance_region-a D.Waits c.in-Waits.is)
+    ∙ put_is (goal.at.returns-in-Waits c).After-advance_region-a (Ok D.Waits) c.in-Waits.is)
 
 pub returns-in-To : goal.returns-in-To
 returns-in-To c =
@@ -91,7 +93,7 @@ returns-in-To c =
     let a = c.args in
     tells outcome_told
     (ap (λ (r : Stepped). outcome r a.table.now a.reply.now (after (goal.at.returns-in-To c).After-advance_region-a)) c.counted_in.ensures
-    ∙ put_is (goal.at.returns-in-To c).After-advance_region-a (D.To _) c.in-To.is)
+    ∙ put_is (goal.at.returns-in-To c).After-advance_region-a (Ok (D.To _)) c.in-To.is)
 
 pub returns-in-Begins : goal.returns-in-Begins
 returns-in-Begins c =
@@ -100,7 +102,7 @@ returns-in-Begins c =
     let g = c in
     tells outcome_told
     (r.begin_region.ensures c.args.reply.now
-    ∙ put_is (goal.at.returns-in-Begins c).After-advance_region-a D.Begins s.in-Begins.is)
+    ∙ put_is (goal.at.returns-in-Begins c).After-advance_region-a (Ok D.Begins) s.in-Begins.is)
 
 pub returns-in-Closes : goal.returns-in-Closes
 returns-in-Closes c =
@@ -108,4 +110,4 @@ returns-in-Closes c =
     let a = c.args in
     tells outcome_told
     (ap (λ (r : Stepped). outcome r a.table.now a.reply.now (after (goal.at.returns-in-Closes c).After-advance_region-a)) c.close.ensures
-    ∙ put_is (goal.at.returns-in-Closes c).After-advance_region-a D.Closes c.in-Closes.is)
+    ∙ put_is (goal.at.returns-in-Closes c).After-advance_region-a (Ok D.Closes) c.in-Closes.is)
