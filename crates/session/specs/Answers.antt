@@ -13,6 +13,8 @@ use Rattle.base.specs.Told.{
   told_finished,
   told_refused,
 }
+use Rattle.refusal.specs.Refusal.{refusal_number}
+use Rattle.verdict.specs.Verdict.{finish_number}
 use Rattle.session.specs.Outcome.{Outcome}
 use Rattle.session.specs.declared.Answer.{Answer}
 use Rattle.session.specs.declared.Answer.TheVariants as A
@@ -26,8 +28,8 @@ answer_told (A.Open i) = told_open i
 answer_told (A.Bytes k) = told_bytes k
 answer_told A.EmptyRead = told_empty_read
 answer_told (A.Close i) = told_close i
-answer_told (A.Finished how reads) = told_finished how reads
-answer_told (A.Refused why) = told_refused why
+answer_told (A.Finished how reads) = told_finished (finish_number how) reads
+answer_told (A.Refused why) = told_refused (refusal_number why)
 
 -- an answer's place and its values; finished has its number and the memory reads
 abbrev pub answer_number : Answer → ℕ

@@ -12,6 +12,7 @@ use Rattle.session.specs.declared.Session.{Session}
 use Rattle.session.specs.declared.Answer.{Answer}
 use Rattle.session.specs.declared.Answer.TheVariants as A
 use Rattle.session.specs.declared.Stepped.{Stepped}
+use Rattle.refusal.specs.declared.Refusal.{Refusal}
 
 -- "Opened with mode, command or none, backend": no packet byte is held. The width is that of the memory debug that came, 64 bits before (document 02, request 2)
 abbrev pub opened_with : Opening → Session
@@ -73,5 +74,5 @@ abbrev pub gives : Session → ℕ → Answer → Stepped
 gives s n a = record { session = s; taken = n; answer = a }
 
 -- refused with session and buffers untouched, nothing taken
-abbrev pub untouched : Session → ℕ → List ℕ → List ℕ → List ℕ → Outcome
+abbrev pub untouched : Session → Refusal → List ℕ → List ℕ → List ℕ → Outcome
 untouched s why t y o = outcome (gives s 0 (A.Refused why)) t y o

@@ -21,7 +21,7 @@ use Rattle.session.specs.declared.Stepped.{Stepped}
 use Rattle.session.specs.declared.Counted.{Counted}
 use Rattle.session.specs.Outcome.{in_phase, reading, ended, region, Outcome, outcome, gives}
 use Rattle.refusal.specs.declared.Refusal.{Refusal}
-use Rattle.refusal.specs.Refusal.{accepted}
+use Rattle.refusal.specs.declared.Refusal.TheVariants as Refusal
 
 -- "On USB a chunk that is a multiple of 512 makes one empty read due when its last byte is handed out, that is, when nothing is outstanding and done is a
 -- multiple of 512". The test is of done: every chunk but a region's last is a multiple of 512, so done is one just where the chunk is
@@ -82,15 +82,15 @@ next_chunk s k x t y o =
     (outcome (counted_in s k (asked_of s.width s.opening s.reads x)) t y (asked_out s.width s.opening x o))
 
 -- what a region that ends behind the memory is refused with: 22, and "24 when a selected 32-bit region has base + length above 2^32, in the place of 22"
-abbrev pub past_end : Width → ℕ
-past_end WI.Bits32 = 24
-past_end WI.Bits64 = 22
+abbrev pub past_end : Width → Refusal
+past_end WI.Bits32 = Refusal.RegionEnd32
+past_end WI.Bits64 = Refusal.RegionEnd
 
 -- "in the step after open (nothing done or outstanding, no empty read due)": 21 by the table that is lent in that step, 22 or 24 by the base and length that
 -- the session keeps; 256 ^ field_size is 2^64 or 2^32. With nothing outstanding, done is 0 only before the first memory read: each asks for at least a byte, and its bytes
 -- are handed out before the next
 abbrev pub begun_of : Session → ℕ → Region → List ℕ → List ℕ → List ℕ → Result Unit Refusal → Outcome
-begun_of s k x t y o accepted =
+begun_of s k x t y o (Ok tt) =
     pick (ltb (256 ^ field_size s.width) (x.base + x.len))
     (outcome (gives (ended s) 0 (A.Refused (past_end s.width))) t y o)
     (next_chunk s k x t y o)

@@ -4,7 +4,8 @@
 ghost use Rattle.std.specs.Prelude.{◌≡◌};
 
 use field::Width;
-use verdict::Opening;
+use refusal::Refusal;
+use verdict::{Finish, Opening};
 
 // A buffer that is being filled: its declared length, and how much is there.
 #[derive(Clone, Copy)]
@@ -62,7 +63,7 @@ pub enum Answer {
     Bytes(usize),
     EmptyRead,
     Close(usize),
-    Finished(u8, u64),
+    Finished(Finish, u64),
     Refused(Refusal),
 }
 

@@ -3,9 +3,10 @@
 
 ghost use Rattle.std.specs.Prelude.{◌≡◌, min};
 ghost use Rattle.session.specs.Outcome.{gives, in_phase};
-ghost use Rattle.turn.specs.Turn.{refusal_of};
+ghost use Rattle.turn.specs.Turn.{guard_of};
 
 use limits::reads_limit;
+use refusal::Refusal;
 use session::{Answer, Phase, Session, Stepped};
 
 // The lesser of two.
@@ -15,20 +16,18 @@ pub fn least(a: usize, b: usize) -> usize
     if a < b { a } else { b }
 }
 
-// 3, then 18, else 0: limited tells that a count of the phase is above its limit.
-pub fn guard(s: Session, limited: bool, out: &[u8]) -> u8
-    ensures { result ≡ refusal_of s limited out.now }
+// 3, then 18: limited tells that a count of the phase is above its limit.
+#[tactic(auto, unfolding(crate::specs::Turn::guard_of))]
+pub fn guard(s: Session, limited: bool, out: &[u8]) -> Result<(), Refusal>
+    ensures { result ≡ guard_of s limited out.now }
 {
     if out.len() < 48 {
-        return 3;
+        return Err(Refusal::OutBuffer);
     }
-    if reads_limit(s.reads) {
-        return 18;
+    if reads_limit(s.reads) || limited {
+        return Err(Refusal::Limit);
     }
-    if limited {
-        return 18;
-    }
-    0
+    Ok(())
 }
 
 // Refused, the session as it was and nothing taken.
@@ -46,17 +45,8 @@ pub fn untouched(s: Session, why: Refusal) -> Stepped
 pub fn moved(s: Session, phase: Phase, taken: usize, answer: Answer) -> Stepped
     ensures { result ≡ gives (in_phase s phase) taken answer }
 {
-    let opening = s.opening;
-    let width = s.width;
-    let window = s.window;
     Stepped {
-        session: Session {
-            opening,
-            reads: s.reads,
-            width,
-            window,
-            phase,
-        },
+        session: Session { phase, ..s },
         taken,
         answer,
     }
