@@ -1,11 +1,10 @@
 -- Entries of the memory table. Document 01, Records, "Table entry": 64 bytes: preference, base, length (8 each), description and filename (20 each).
 -- Document 02, request 2: "Their table entries are 52 bytes: preference, base and length in 4 bytes each, then the two 20-byte texts." The width f of the three
 -- numbers, 8 or 4 (`field_size` of field/specs/Field), is a parameter of each definition.
-use Rattle.std.specs.Prelude.{ℕ, zero, suc, ◌+◌, ◌*◌, ◌/◌, Bool, true, false, List, [], ◌∷◌, leb, length, take, drop, replicate}
+use Rattle.std.specs.Prelude.{ℕ, zero, suc, ◌+◌, ◌*◌, ◌/◌, Bool, List, [], ◌∷◌, Option, Some, None, leb, length, take, drop}
 use Rattle.base.specs.Choice.{pick}
 use Rattle.field.specs.Field.{le}
 use Rattle.entry.specs.declared.RamdumpTable64.{RamdumpTable64}
-use Rattle.entry.specs.declared.EntryAt.{EntryAt}
 
 abbrev pub entry_size : ℕ → ℕ
 entry_size f = 3 * f + 40
@@ -60,14 +59,6 @@ entries_from f t (suc k) i = entry_in f t i ∷ entries_from f t k (suc i)
 abbrev pub entries_of : ℕ → List ℕ → List RamdumpTable64
 entries_of f t = entries_from f t (entries_in f (length t)) 0
 
--- an entry of zeros stands for one that is not there
-abbrev pub nothing : RamdumpTable64
-nothing = record { save_pref = 0; base = 0; len = 0; description = replicate 20 0; filename = replicate 20 0 }
-
--- the answer where an entry is not there
-abbrev pub missing : EntryAt
-missing = record { there = false; entry = nothing }
-
--- entry i of a table, or that it is not there
-unfoldable pub entry_at : ℕ → List ℕ → ℕ → EntryAt
-entry_at f t i = pick (there f t i) (record { there = true; entry = entry_in f t i }) missing
+-- entry i of a table, where it is there
+unfoldable pub entry_at : ℕ → List ℕ → ℕ → Option RamdumpTable64
+entry_at f t i = pick (there f t i) (Some (entry_in f t i)) None

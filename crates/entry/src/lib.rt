@@ -3,7 +3,7 @@
 
 ghost use Rattle.std.specs.Prelude.{◌≡◌, ◌+◌, ◌≤◌, length, take, drop};
 ghost use Rattle.field.specs.Field.{le, field_size};
-ghost use Rattle.entry.specs.Entry.{entry_size, entries_in, decoded, missing, entry_at};
+ghost use Rattle.entry.specs.Entry.{entry_size, entries_in, decoded, entry_at};
 
 use field::{Width, field_size, u32_padded, u64_padded};
 
@@ -15,13 +15,6 @@ pub struct RamdumpTable64 {
     pub len: u64,
     pub description: [u8; 20],
     pub filename: [u8; 20],
-}
-
-// Whether the table has the entry, and the entry.
-#[derive(Clone, Copy)]
-pub struct EntryAt {
-    pub there: bool,
-    pub entry: RamdumpTable64,
 }
 
 // The bytes of an entry.
@@ -88,29 +81,12 @@ fn decode(table: &[u8], width: Width, at: usize) -> RamdumpTable64
     }
 }
 
-// Stands for an entry that is not there.
-pub fn no_entry() -> EntryAt
-    ensures { result ≡ missing }
-{
-    EntryAt {
-        there: false,
-        entry: RamdumpTable64 {
-            save_pref: 0,
-            base: 0,
-            len: 0,
-            description: [0u8; 20],
-            filename: [0u8; 20],
-        },
-    }
-}
-
 // Entry i of a table, where it lies whole within it.
-pub fn entry_at(table: &[u8], width: Width, i: usize) -> EntryAt
+pub fn entry_at(table: &[u8], width: Width, i: usize) -> Option<RamdumpTable64>
     ensures { result ≡ entry_at (field_size width) table.now i }
 {
     if entries_in(width, table.len()) <= i {
-        return no_entry();
+        return None;
     }
-    let entry = decode(table, width, entry_size(width) * i);
-    EntryAt { there: true, entry }
+    Some(decode(table, width, entry_size(width) * i))
 }
