@@ -1,14 +1,17 @@
 -- Laws of filenames: the bytes before a byte are a beginning, so is the stem, and a sound name is refused nowhere. Assumes nothing.
 use mathlib.Core.Path.{◌≡◌, refl, sym, ap, ◌∙◌}
-use mathlib.Core.Bool.{Bool, true, false}
+use mathlib.Core.Bool.{Bool, true, false, cond, not}
+use mathlib.Core.Logic.{⊎_elim}
 use mathlib.Core.List.{List, [], ◌∷◌}
-use Prim.Native.Nat.{ℕ, suc, ◌<◌, ◌≤◌}
+use Prim.Native.Nat.{ℕ, suc, ◌+◌, ◌<◌, ◌≤◌}
 use native.Mathlib.Omega.{arith}
 use lib.Dec.{eqb, ltb, lit<, leb-suc-suc}
-use lib.ListN.{length, get_or, take, drop}
-use lib.Seq.{drop-cons}
-use borrow.Author.Tests.{eq-eqb, ne_eqb, lt-ltb, le-ltb, eqb-true, ltb-true}
+use lib.ListN.{length, get_or, take}
+use borrow.Author.Tests.{lt-ltb, le-ltb, eqb-true, ltb-true}
+use Rattle.std.specs.List.{position, position_or_len}
+use Rattle.std.specs.Option.{unwrap_or}
 use Rattle.base.specs.Choice.{pick}
+use Rattle.base.proofs.Ranges.{below_or_not}
 use Rattle.utf8.specs.Utf8.{utf8}
 use Rattle.utf8.proofs.Laws.{cut}
 use Rattle.filename.specs.Filename.{before, has, stem_of, open_check, after_open_check, sound}
@@ -67,16 +70,22 @@ at_before b (x ∷ xs) h = by (eqb x b) refl (at_before b xs) h where
   by true e k h = eqb-true x b e
   by false e k h = k (omega arith)
 
--- a search at place i ends where the byte is b
-pub found : (b : ℕ) (s : List ℕ) (i : ℕ) → i < length s → get_or s i 0 ≡ b → length (before b (drop i s)) ≡ 0
+-- they end at b's first place, or with the whole
+place_of : (b : ℕ) (s : List ℕ) → position_or_len (λ x. eqb x b) s ≡ length (before b s)
 unfolding before
-found b s i h e = rw (drop-cons s i 0, eq-eqb (get_or s i 0) b e)
+place_of b [] = refl
+place_of b (x ∷ xs) = by (eqb x b) (place_of b xs) where
+  by : (t : Bool) → position_or_len (λ x. eqb x b) xs ≡ length (before b xs)
+      → cond (not t) (1 + position_or_len (λ x. eqb x b) xs) 0 ≡ length (pick t [] (x ∷ before b xs))
+  by true e = refl
+  by false e = omega arith
 
--- and goes on at another byte
-pub passed : (b : ℕ) (s : List ℕ) (i : ℕ) → i < length s → (get_or s i 0 ≡ b → ⊥)
-    → length (before b (drop i s)) ≡ suc (length (before b (drop (suc i) s)))
-unfolding before
-passed b s i h n = rw (drop-cons s i 0, ne_eqb (get_or s i 0) b n)
+pub place_or_end : (b : ℕ) (s : List ℕ) → unwrap_or (position (λ x. eqb x b) s) (length s) ≡ length (before b s)
+place_or_end b s =
+    ⊎_elim
+    (λ (f : length (before b s) < length s). rw (place_of b s, lt-ltb (length (before b s)) (length s) f) refl)
+    (λ (f : length s ≤ length (before b s)). rw (place_of b s, le-ltb (length (before b s)) (length s) f) (omega (arith, length_before b s)))
+    (below_or_not (length (before b s)) (length s))
 
 -- the stem is a beginning of the name
 pub stem_take : (name : List ℕ) → stem_of name ≡ take (length (stem_of name)) name

@@ -11,14 +11,7 @@ use refusal::Refusal;
 pub fn find(name: &[u8], b: u8) -> usize
     ensures { result ≡ length (before b name.now) }
 {
-    let mut i: usize = 0;
-    while i < name.len() {
-        if name[i] == b {
-            return i;
-        }
-        i += 1;
-    }
-    i
+    name.iter().position(|c| *c == b).unwrap_or(name.len())
 }
 
 // How many bytes of the name are its stem.
