@@ -53,11 +53,7 @@ fn text_at(table: &[u8], at: usize) -> [u8; 20]
     ensures { result ≡ take 20 (drop at table.now) }
 {
     let mut text = [0u8; 20];
-    let mut j: usize = 0;
-    while j < 20 {
-        text[j] = table[at + j];
-        j += 1;
-    }
+    text.copy_from_slice(&table[at..at + 20]);
     text
 }
 
