@@ -1,9 +1,9 @@
 -- Laws of bundles: the slots one by one, what a well-formed bundle is made of, where its slots lie, and how much they hold.
 use mathlib.Core.Path.{◌≡◌, refl, sym, ap, ◌∙◌}
-use mathlib.Core.Bool.{Bool, true, false, false≢true}
+use mathlib.Core.Bool.{Bool, true, false, false≢true, ◌&&◌}
 use mathlib.Core.List.{List}
 use mathlib.Core.Option.{none}
-use Prim.Native.Nat.{ℕ, zero, suc, ◌+◌, ◌-◌, ◌*◌, ◌<◌, ◌≤◌}
+use Prim.Native.Nat.{ℕ, zero, suc, ◌+◌, ◌*◌, ◌<◌, ◌≤◌}
 use native.Mathlib.Omega.{arith}
 use native.Mathlib.Nat.{add-zero, zero-add}
 use native.Mathlib.Numerals.{add-one}
@@ -11,6 +11,7 @@ use borrow.Author.Tests.{ltb-false, leb-true, eqb-true, le-ltb, le-leb, lt-leb, 
 use lib.Dec.{ltb, leb, eqb}
 use lib.ListN.{length, take, drop, length-drop}
 use lib.Seq.{length-take-le}
+use Rattle.std.specs.List.{list_all, range_with_len}
 use Rattle.base.specs.Choice.{pick}
 use Rattle.base.proofs.Ranges.{by_else, by_then, either}
 use Rattle.bundle.specs.Bundle.{count_of, data_size_of, slot_start_of, slot_length_of, data_from, absent, slot_good, slots_good, well_formed, slot_of}
@@ -38,18 +39,15 @@ absent≢at q = let z : ◌≡◌ {A = ℕ} 0 1 = cc in omega arith
 absent≢missing : S.Absent ≡ S.Missing → ⊥
 absent≢missing q = let z : ◌≡◌ {A = ℕ} 0 1 = cc in omega arith
 
--- one slot more
-pub slots_step : (gaps : Bool) (b : List ℕ) (n i : ℕ) → i < n
-    → slots_good gaps b (n - i) i ≡ pick (slot_good gaps b i) (slots_good gaps b (n - (i + 1)) (i + 1)) false
+-- k slots from i on, each by its number
+pub slots_list : (gaps : Bool) (b : List ℕ) (k i : ℕ) → list_all (slot_good gaps b) (range_with_len i k) ≡ slots_good gaps b k i
 unfolding slots_good
-slots_step gaps b n i h =
-    let e : n - i ≡ suc (n - (i + 1)) = omega arith in
-    rw (e, add-one i) refl
-
--- no slot left
-pub slots_done : (gaps : Bool) (b : List ℕ) (i : ℕ) → slots_good gaps b 0 i ≡ true
-unfolding slots_good
-slots_done gaps b i = refl
+slots_list gaps b zero i = refl
+slots_list gaps b (suc k) i = by (slot_good gaps b i) (rw (add-one i) (slots_list gaps b k (suc i))) where
+  by : (t : Bool) → list_all (slot_good gaps b) (range_with_len (i + 1) k) ≡ slots_good gaps b k (suc i)
+      → (t && list_all (slot_good gaps b) (range_with_len (i + 1) k)) ≡ pick t (slots_good gaps b k (suc i)) false
+  by true e = e
+  by false e = refl
 
 -- each of k good slots from i on is good
 slots_each : (gaps : Bool) (b : List ℕ) (k i j : ℕ) → slots_good gaps b k i ≡ true → j < k → slot_good gaps b (i + j) ≡ true

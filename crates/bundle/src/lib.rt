@@ -98,14 +98,7 @@ fn slots_good(b: &[u8], gaps: bool, n: usize, d: usize) -> bool
     requires { (n ≡ count_of b.now) × (d ≡ data_size_of b.now) × (8 + 8 * n ≤ length b.now) }
     ensures { result ≡ slots_good gaps b.now n 0 }
 {
-    let mut i: usize = 0;
-    while i < n {
-        if !slot_good(b, gaps, n, d, i) {
-            return false;
-        }
-        i += 1;
-    }
-    true
+    (0..n).all(|i| slot_good(b, gaps, n, d, i))
 }
 
 // A well-formed bundle, with or without absent slots allowed.
