@@ -1,14 +1,16 @@
 -- Laws of UTF-8: what the class of a byte says of the text from there on, and that a text may be cut before any ASCII byte. Assumes nothing.
 use mathlib.Core.Path.{◌≡◌, refl, sym, ap, ◌∙◌}
-use mathlib.Core.Bool.{Bool, true, false}
+use mathlib.Core.Bool.{Bool, true, false, false≢true}
 use mathlib.Core.List.{List, [], ◌∷◌, ◌++◌}
 use Prim.Native.Nat.{ℕ, zero, suc, ◌+◌, ◌-◌, ◌<◌, ◌≤◌}
 use native.Mathlib.Omega.{arith}
-use native.Mathlib.Numerals.{add-one}
 use lib.Dec.{T, leb, leb→le}
 use lib.ListN.{length, get_or, take, drop}
 use lib.Seq.{split_at, drop-cons, drop-drop}
 use borrow.Author.Tests.{le-leb, lt-leb, eq-eqb, ne_eqb}
+use Rattle.std.specs.List.{slice_get}
+use Rattle.std.proofs.Common.{None, Some}
+use Rattle.std.proofs.lemmas.Option.{slice_get_within, get_or_from_slice_get}
 use Rattle.base.specs.Choice.{pick}
 use Rattle.utf8_sequence.specs.Sequence.{follows, end_of}
 use Rattle.utf8_sequence.specs.declared.Follow.{Follow}
@@ -75,9 +77,19 @@ by_lead b bs = by (leads table b) where
   by true = ap (λ (l : List Range). goes_on l bs) (sym (ranges_follow b)) ∙ goes_follows f.0 f.1 f.2 bs
   by false = refl
 
--- the text from a place on, by the class of the byte there
-pub goes_turn : (s : List ℕ) (i : ℕ) (x : Class) → i < length s → x ≡ lead_of (get_or s i 0) → utf8 (drop i s) ≡ goes_by x (drop (i + 1) s)
-goes_turn s i x h e = rw (e, add-one, drop-cons s i 0) (by_lead (get_or s i 0) (drop (suc i) s))
+-- a text's first byte, and those behind it
+pub first_byte : (r : List ℕ) (b : ℕ) → Some b ≡ slice_get r 0 → r ≡ b ∷ drop 1 r
+first_byte r b e =
+    drop-cons r 0 0 (slice_get_within r 0 b (sym e)) ∙ ap (λ (x : ℕ). x ∷ drop 1 r) (get_or_from_slice_get r 0 b 0 (sym e))
+
+-- a text without a first byte
+pub no_byte : (r : List ℕ) → None ≡ slice_get r 0 → r ≡ []
+no_byte [] e = refl
+no_byte (x ∷ xs) e = let z : ◌≡◌ {A = ℕ} 0 1 = cc in absurd (omega arith)
+
+-- the same of a text that begins with the byte
+pub goes_turn : (r : List ℕ) (b : ℕ) (x : Class) → r ≡ b ∷ drop 1 r → x ≡ lead_of b → utf8 r ≡ goes_by x (drop 1 r)
+goes_turn r b x h e = ap utf8 h ∙ rw e (by_lead b (drop 1 r))
 
 -- what constants of the rule say of a byte: its digit is one of '0'..'9'; '0' leads nothing; any other is the row of what follows
 module _ (digits : List ℕ) (rows : List Follow) (k : Rule digits rows) (b : ℕ) (l : b < 256) where
@@ -112,26 +124,36 @@ pub most_three : (b : ℕ) (f : Follow) → lead_of b ≡ lead f → f.0 ≤ 3
 unfolding more_of
 most_three b f e = rw e at (lead_more b)
 
--- a sequence ends where its bytes do: at most three follow
-ends : (f : Follow) (s : List ℕ) (i b : ℕ) → lead f ≡ lead_of b → end_of f s i ≡ pick (follows f.0 f.1 f.2 (drop i s)) (i + f.0) 0
-ends f s i b e = rw (le-leb f.0 3 (most_three b f (sym e))) refl
+-- bytes that follow are there
+follows_length : (n low high : ℕ) (bs : List ℕ) → follows n low high bs ≡ true → n ≤ length bs
+unfolding follows
+follows_length zero low high bs t = omega arith
+follows_length (suc n) low high [] t = absurd (false≢true t)
+follows_length (suc n) low high (b ∷ bs) t =
+    let u = by_then (leb low b) (pick (leb b high) (follows n 0x80 0xBF bs) false) false false≢true t in
+    let v = by_then (leb b high) (follows n 0x80 0xBF bs) false false≢true u.1 in
+    omega (arith, follows_length n 0x80 0xBF bs v.1)
 
--- one of which not all bytes come: the text is not UTF-8
-pub not_whole : (s : List ℕ) (i : ℕ) (f : Follow) (r : ℕ) → i < length s → lead f ≡ lead_of (get_or s i 0)
-    → r ≡ end_of f s (i + 1) → r ≡ 0 → utf8 (drop i s) ≡ false
-not_whole s i f r h e p z =
-    let q = sym (ends f s (i + 1) (get_or s i 0) e) ∙ sym p ∙ z in
-    let t = by_else (follows f.0 f.1 f.2 (drop (i + 1) s)) (i + 1 + f.0) 0 (λ n. omega arith) q in
-    rw t.0 at (goes_turn s i (lead f) h e)
+-- a sequence at the beginning of a text, of which the row f tells what follows its lead byte, and the place e that its bytes end at
+module _ (r : List ℕ) (b : ℕ) (f : Follow) (e : ℕ) (h : r ≡ b ∷ drop 1 r) (l : lead f ≡ lead_of b) (p : e ≡ end_of f r 1) where
+  -- it ends where its bytes do: at most three follow
+  ends : e ≡ pick (follows f.0 f.1 f.2 (drop 1 r)) (1 + f.0) 0
+  ends = p ∙ rw (le-leb f.0 3 (most_three b f (sym l))) refl
 
--- one of which they do: it is for the bytes behind it to say
-pub whole : (s : List ℕ) (i : ℕ) (f : Follow) (r : ℕ) → i < length s → lead f ≡ lead_of (get_or s i 0)
-    → r ≡ end_of f s (i + 1) → (r ≡ 0 → ⊥) → (i < r) × (utf8 (drop r s) ≡ utf8 (drop i s))
-whole s i f r h e p z =
-    let q = sym (ends f s (i + 1) (get_or s i 0) e) ∙ sym p in
-    let t = by_then (follows f.0 f.1 f.2 (drop (i + 1) s)) (i + 1 + f.0) 0 (λ n. z (sym n)) q in
-    let g = rw (t.0, drop-drop f.0 (i + 1) s) at (goes_turn s i (lead f) h e) in
-    (omega (arith, t.1), rw (sym t.1) (sym g))
+  -- one of which not all bytes come: the text is not UTF-8
+  pub not_whole : e ≡ 0 → utf8 r ≡ false
+  not_whole z =
+      let t = by_else (follows f.0 f.1 f.2 (drop 1 r)) (1 + f.0) 0 (λ n. omega arith) (sym ends ∙ z) in
+      rw t.0 at (goes_turn r b (lead f) h l)
+
+  -- one of which they do: it is for the bytes behind it to say
+  pub whole : (e ≡ 0 → ⊥) → (0 < e) × (e ≤ length r) × (utf8 (drop e r) ≡ utf8 r)
+  whole z =
+      let t = by_then (follows f.0 f.1 f.2 (drop 1 r)) (1 + f.0) 0 (λ n. z (sym n)) (sym ends) in
+      let g = rw (t.0, drop-drop f.0 1 r) at (goes_turn r b (lead f) h l) in
+      let m = follows_length f.0 f.1 f.2 (drop 1 r) t.0 in
+      let n = ap length h in
+      (omega (arith, t.1), omega (arith, t.1, m, n), rw (sym t.1) (sym g))
 
 -- each range to come is above ASCII
 abbrev high : List Range → Bool

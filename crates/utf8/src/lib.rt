@@ -46,16 +46,17 @@ fn sequences(classes: &[u8; 256], rows: [Follow; 9], s: &[u8]) -> bool
     requires { Rule classes.now rows }
     ensures { result ≡ utf8 s.now }
 {
-    let mut i: usize = 0;
-    while i < s.len() {
-        let class = classes[s[i] as usize];
+    let mut rest = s;
+    while let Some(lead) = rest.first() {
+        let class = classes[*lead as usize];
         if class == b'0' {
             return false;
         }
-        i = behind(rows[class as usize - b'1' as usize], s, i + 1);
-        if i == 0 {
+        let end = behind(rows[class as usize - b'1' as usize], rest, 1);
+        if end == 0 {
             return false;
         }
+        rest = &rest[end..];
     }
     true
 }
