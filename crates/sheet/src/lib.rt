@@ -67,10 +67,8 @@ fn put_name(page: &mut [u8], at: usize, name: &[u8])
     ensures { page.new ≡ sets page.old at (columns name.now) }
 {
     let k = find(name, 0);
-    let mut j: usize = 0;
-    while j < COLUMNS {
+    for j in 0..COLUMNS {
         page[at + j] = column(name, k, j);
-        j += 1;
     }
 }
 
@@ -91,11 +89,9 @@ fn put_hex(page: &mut [u8], at: usize, v: u64)
     ensures { page.new ≡ sets page.old at (hex 16 v) }
 {
     let mut rest = v;
-    let mut j: usize = 16;
-    while 0 < j {
-        j -= 1;
+    for j in (0..16).rev() {
         page[at + j] = hex_digit((rest % 16) as u8);
-        rest = rest / 16;
+        rest /= 16;
     }
 }
 
@@ -130,12 +126,10 @@ fn put_lines(page: &mut [u8], table: &[u8], width: Width, n: usize)
     requires { (n ≤ entries_in (field_size width) (length table.now)) × (57 * n ≤ length page.old) }
     ensures { page.new ≡ sets page.old 0 (lines_of (field_size width) table.now n) }
 {
-    let mut i: usize = 0;
-    while i < n {
+    for i in 0..n {
         let found = entry_at(table, width, i);
         let e = found.entry;
         put_line(page, LINE * i, e);
-        i += 1;
     }
 }
 
