@@ -50,14 +50,12 @@ pub fn data_size(set: &[u8], n: usize) -> usize
     ensures { result ≡ min (most_data + 1) (length (data_of (first_contents set.now n))) }
 {
     let mut total: usize = 0;
-    let mut i: usize = 0;
-    while i < n {
+    for i in 0..n {
         let size = size_at(set, i);
         if MOST - total < size {
             return MOST + 1;
         }
         total += size;
-        i += 1;
     }
     total
 }

@@ -1,4 +1,4 @@
--- `slot_sizes::data_size` meets its contract. The loop's invariant: the total is that of the first i slots, and at most the most. Assumes nothing.
+-- `slot_sizes::data_size` meets its contract: each pass adds one more slot's bytes. Assumes nothing.
 use mathlib.Core.Path.{◌≡◌, sym}
 use mathlib.Core.List.{List}
 use Prim.Native.Nat.{ℕ, suc, ◌+◌}
@@ -11,29 +11,18 @@ use Rattle.tidied.proofs.Laws.{data_none, data_grows, data_up_to}
 use Rattle.slot_sizes.proofs.data_size.Goals as goal
 
 pub loop-i-init : goal.loop-i-init
-loop-i-init c = (omega arith, sym (data_none c.args.set.now), omega arith)
+loop-i-init c = (sym (data_none c.args.set.now), omega arith)
 
 pub returns-then-total-size : goal.returns-then-total-size
 returns-then-total-size c =
     let l = c.loop-i in
     let a = c.args in
-    omega (arith, c.size_at-size.ensures, l.invariant.1, data_up_to a.set.now l.i a.n (omega arith))
-
-pub overflow_add-total : goal.overflow_add-total
-overflow_add-total c = omega arith
+    omega (arith, c.size_at-size.ensures, l.invariant.0, data_up_to a.set.now l.i a.n (omega arith))
 
 pub loop-i-preserved : goal.loop-i-preserved
 loop-i-preserved c =
     let l = c.loop-i in
     let B : List ℕ = c.args.set.now in
     let e : l.total + c.size_at-size.result ≡ length (data_of (first_contents B (suc l.i))) =
-    omega (arith, c.size_at-size.ensures, l.invariant.1, data_grows B l.i) in
-    (omega arith, rw add-one e, omega arith)
-
-pub returns : goal.returns
-returns c =
-    let l = c.loop-i in
-    let a = c.args in
-    let e : l.i ≡ a.n = omega arith in
-    let t : l.total ≡ length (data_of (first_contents a.set.now a.n)) = rw e at l.invariant.1 in
-    omega arith
+    omega (arith, c.size_at-size.ensures, l.invariant.0, data_grows B l.i) in
+    (rw add-one e, omega arith)
