@@ -43,11 +43,9 @@ fn put_starts(to: &mut [u8], set: &[u8], n: usize)
     ensures { to.new ≡ sets to.old 8 (words (starts_from 0 (first_contents set.now n))) }
 {
     let mut sum: usize = 0;
-    let mut i: usize = 0;
-    while i < n {
+    for i in 0..n {
         put_u32(to, 8 + 4 * i, start_at(set, i, sum as u32));
         sum += size_at(set, i);
-        i += 1;
     }
 }
 
@@ -56,10 +54,8 @@ fn put_lengths(to: &mut [u8], at: usize, set: &[u8], n: usize)
     requires { (at + 4 * n ≤ length to.old) × (length (data_of (first_contents set.now n)) ≤ most_data) }
     ensures { to.new ≡ sets to.old at (words (map size_in (first_contents set.now n))) }
 {
-    let mut i: usize = 0;
-    while i < n {
+    for i in 0..n {
         put_u32(to, at + 4 * i, size_at(set, i) as u32);
-        i += 1;
     }
 }
 
@@ -81,11 +77,9 @@ fn put_data(to: &mut [u8], at: usize, set: &[u8], n: usize)
     ensures { to.new ≡ sets to.old at (data_of (first_contents set.now n)) }
 {
     let mut sum: usize = 0;
-    let mut i: usize = 0;
-    while i < n {
+    for i in 0..n {
         put_content(to, at + sum, set, i);
         sum += size_at(set, i);
-        i += 1;
     }
 }
 

