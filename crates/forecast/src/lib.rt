@@ -9,34 +9,27 @@ ghost use Rattle.forecast_sums.specs.Forecast.{forecast_of, forecast_chunk, fore
 
 use entry::{RamdumpTable64, entries_in, entry_at};
 use field::Width;
-use forecast_sums::{Foreseen, add, finish, more, start};
-use selection::next_selected;
+use forecast_sums::{Foreseen, add, finish, start};
 
 // Of a list of entries.
 pub fn forecast(entries: &[RamdumpTable64], names: &[u8]) -> Foreseen
     ensures { Tells forecast_told result (forecast_of forecast_chunk entries.now names.now) }
 {
     let mut s = start(names);
-    let mut i = 0;
-    while i < entries.len() {
-        s = add(s, entries[i], names);
-        i = i + 1;
+    for e in entries {
+        s = add(s, *e, names);
     }
     finish(s)
 }
 
-// Of the entries of a table: the selected ones are searched for as a step does it.
+// Of the entries of a table.
 pub fn forecast_table(table: &[u8], width: Width, names: &[u8]) -> Foreseen
     ensures { Tells forecast_told result (forecast_of forecast_chunk (entries_of (field_size width) table.now) names.now) }
 {
     let mut s = start(names);
-    let n = entries_in(width, table.len());
-    let mut i = next_selected(table, width, n, names, 0);
-    while i < n {
+    for i in 0..entries_in(width, table.len()) {
         let found = entry_at(table, width, i);
-        let e = found.entry;
-        s = more(s, e.len);
-        i = next_selected(table, width, n, names, i + 1);
+        s = add(s, found.entry, names);
     }
     finish(s)
 }

@@ -18,18 +18,14 @@ none_left : (names : List ℕ) (es : List RamdumpTable64) (i : ℕ) (s : Sums) �
 unfolding add_all
 none_left names es i s h = rw drop_of_length-le refl
 
-pub loop-i-preserved : goal.loop-i-preserved
-loop-i-preserved c =
-    let a = c.args in
-    ap (λ (x : Sums). add_all chunk a.names.now x (drop (c.loop-i.i + 1) a.entries.now)) c.add-s.ensures
-    ∙ one_added a.names.now a.entries.now c.loop-i.i _ c.loop-i.s c.loop-i-test.true
-    ∙ c.loop-i.invariant
+pub loop-e-preserved : goal.loop-e-preserved
+loop-e-preserved c = rw c.add-s.ensures (one_added _ _ c.loop-e.e-index _ c.loop-e.s c.loop-e-test.true ∙ c.loop-e.invariant)
 
 pub returns : goal.returns
 returns c =
     let a = c.args in
     let names = a.names.now in
     let es = a.entries.now in
-    let whole : c.loop-i.s ≡ add_all chunk names (start_of names) es =
-    sym (none_left names es c.loop-i.i c.loop-i.s c.loop-i-test.false) ∙ c.loop-i.invariant in
+    let whole : c.loop-e.s ≡ add_all chunk names (start_of names) es =
+    sym (none_left names _ c.loop-e.e-index c.loop-e.s c.loop-e-test.false) ∙ c.loop-e.invariant in
     tells forecast_told (c.finish.ensures ∙ ap foreseen_of whole ∙ sums_are chunk names es (omega arith))
