@@ -1,4 +1,4 @@
--- Laws of selection: one turn of the search over the names and over a stem's bytes, and what the next selected entry is.
+-- Laws of selection: one turn of the search over the names, and what the next selected entry is.
 use mathlib.Core.Path.{◌≡◌, refl, sym, ap, ◌∙◌}
 use mathlib.Core.Bool.{Bool, true, false}
 use mathlib.Core.List.{List, [], ◌∷◌, map}
@@ -6,13 +6,13 @@ use Prim.Native.Nat.{ℕ, zero, suc, ◌+◌, ◌*◌, ◌-◌, ◌/◌, ◌<◌
 use native.Mathlib.Omega.{arith}
 use native.Mathlib.Numerals.{add-one}
 use native.Mathlib.Nat.{add-suc, suc-add, mul-le-mul_left, le_trans, le_refl, sub-zero}
-use borrow.Author.Tests.{eqb-true, eqb-false, le-ltb, ltb-false}
-use lib.Dec.{eqb}
-use lib.ListN.{length, take, drop, get_or, length-map, length-take, length-drop, drop_of_length-le}
-use lib.Seq.{drop-cons}
+use borrow.Author.Tests.{eqb-true, eqb-false, eq-eqb, le-ltb, ltb-false, leb-true, leb-false, clash}
+use lib.Dec.{eqb, leb}
+use Rattle.std.specs.Char.{to_ascii_lowercase}
+use Rattle.std.proofs.lemmas.Str.Ascii.{lowercase_is}
+use lib.ListN.{length, take, drop}
 use Rattle.base.specs.Choice.{pick}
-use Rattle.base.proofs.Ranges.{by_test, either}
-use Rattle.bundle.proofs.Laws.{slot_within}
+use Rattle.base.proofs.Ranges.{by_test, by_then}
 use Rattle.bundle.specs.Bundle.{slot_of}
 use Rattle.bundle.specs.declared.Slot.TheVariants.{At}
 use Rattle.entry.specs.Entry.{entry_size, there, entry_at}
@@ -20,25 +20,35 @@ use Rattle.entry.specs.declared.EntryAt.{EntryAt}
 use Rattle.entry.proofs.Laws.{entry_there, entry_flag, there_below, there_take, entry_of_take}
 use Rattle.selection.specs.Selection.{low, with_name, names_from, same, member, selected_by, selected, selected_at, next_of}
 
--- byte strings of different lengths are not the same
-pub same_length : (xs ys : List ℕ) → (length xs ≡ length ys → ⊥) → same xs ys ≡ false
-unfolding same
-same_length [] [] h = absurd (h refl)
-same_length [] (y ∷ ys) h = refl
-same_length (x ∷ xs) [] h = refl
-same_length (x ∷ xs) (y ∷ ys) h = rw (same_length xs ys (λ e. h (ap suc e))) (either (eqb x y) false)
+-- the library lowers a byte as the definition does, and so a string of them
+pub low_is : (b : ℕ) → to_ascii_lowercase b ≡ low b
+unfolding low
+low_is b =
+    by_test (leb 65 b)
+    (λ h.
+    by_test (leb b 90)
+    (λ k. (lowercase_is b).0 (leb-true 65 b h, leb-true b 90 k) ∙ rw (h, k) refl)
+    (λ k. (lowercase_is b).2 (leb-false b 90 k) ∙ rw (h, k) refl))
+    (λ h. (lowercase_is b).1 (leb-false 65 b h) ∙ rw h refl)
 
--- one byte of two strings, lowered, and the rest
-pub same_step : (xs ys : List ℕ) (j : ℕ) → j < length xs → j < length ys
-    → same (map low (drop j xs)) (map low (drop j ys))
-    ≡ pick (eqb (low (get_or xs j 0)) (low (get_or ys j 0))) (same (map low (drop (j + 1) xs)) (map low (drop (j + 1) ys))) false
-unfolding same
-same_step xs ys j hx hy = rw (add-one j, drop-cons xs j 0 hx, drop-cons ys j 0 hy) refl
+pub lowered_is : (xs : List ℕ) → map to_ascii_lowercase xs ≡ map low xs
+lowered_is [] = refl
+lowered_is (x ∷ xs) = rw (low_is x, lowered_is xs) refl
 
--- two strings that end together are the same from there on
-pub same_done : (xs ys : List ℕ) (j : ℕ) → length xs ≤ j → length ys ≤ j → same (map low (drop j xs)) (map low (drop j ys)) ≡ true
+-- byte strings are the same by the test where they are equal, and only there
+pub same_itself : (xs : List ℕ) → same xs xs ≡ true
 unfolding same
-same_done xs ys j hx hy = rw (drop_of_length-le xs hx, drop_of_length-le ys hy) refl
+same_itself [] = refl
+same_itself (x ∷ xs) = rw (eq-eqb x x refl, same_itself xs) refl
+
+pub same_equal : (xs ys : List ℕ) → same xs ys ≡ true → xs ≡ ys
+unfolding same
+same_equal [] [] h = refl
+same_equal [] (y ∷ ys) h = absurd (clash h)
+same_equal (x ∷ xs) [] h = absurd (clash h)
+same_equal (x ∷ xs) (y ∷ ys) h =
+    let r = by_then (eqb x y) (same xs ys) false clash h in
+    rw (eqb-true x y r.0, same_equal xs ys r.1) refl
 
 -- a stem is one of the names from slot i on, of n slots
 abbrev pub named_from : List ℕ → ℕ → List ℕ → ℕ → Bool
@@ -71,14 +81,17 @@ named_without b n stem i h e =
     let k : n - i ≡ suc (n - (i + 1)) = omega arith in
     rw (k, add-one i, e) refl
 
--- a name of another length than the stem's is passed over
-pub named_unequal : (b : List ℕ) (n : ℕ) (stem : List ℕ) (i start size : ℕ) → i < n → slot_of b i ≡ At start size → (size ≡ length stem → ⊥)
-    → named_from b n stem i ≡ named_from b n stem (i + 1)
-named_unequal b n stem i start size h e d =
-    let name : List ℕ = take size (drop start b) in
-    let w : length name ≡ size = simp (length-take, length-drop) (omega (arith, slot_within b i start size e)) in
-    let v : length (map low stem) ≡ length (map low name) → ⊥ = λ q. d (sym (sym (length-map stem low) ∙ q ∙ length-map name low ∙ w)) in
-    named_at b n stem i start size h e ∙ simp (same_length (map low stem) (map low name) v)
+-- a name that is the stem ends the search, and another is passed over
+pub named_here : (b : List ℕ) (n : ℕ) (stem : List ℕ) (i start size : ℕ) → i < n → slot_of b i ≡ At start size
+    → map low (take size (drop start b)) ≡ map low stem → named_from b n stem i ≡ true
+named_here b n stem i start size h e q = named_at b n stem i start size h e ∙ rw (q, same_itself (map low stem)) refl
+
+pub named_other : (b : List ℕ) (n : ℕ) (stem : List ℕ) (i start size : ℕ) → i < n → slot_of b i ≡ At start size
+    → (map low (take size (drop start b)) ≡ map low stem → ⊥) → named_from b n stem i ≡ named_from b n stem (i + 1)
+named_other b n stem i start size h e d =
+    let name : List ℕ = map low (take size (drop start b)) in
+    named_at b n stem i start size h e
+    ∙ by_test (same (map low stem) name) (λ s. absurd (d (sym (same_equal (map low stem) name s)))) (λ s. rw s refl)
 
 -- an entry that is not there is not selected
 pub selected_missing : (f : ℕ) (names t : List ℕ) (i : ℕ) → there f t i ≡ false → selected_at f names t i ≡ false

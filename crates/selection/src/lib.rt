@@ -14,12 +14,7 @@ use filename::stem_len;
 pub fn lower(b: u8) -> u8
     ensures { result ≡ low b }
 {
-    if 0x41 <= b {
-        if b <= 0x5A {
-            return b + 0x20;
-        }
-    }
-    b
+    b.to_ascii_lowercase()
 }
 
 // Whether a stem is one of n names, both sides lowered. A name's bytes are left at the first that differs, and the search at the first name that is
@@ -27,32 +22,14 @@ pub fn lower(b: u8) -> u8
 fn named(names: &[u8], n: usize, stem: &[u8]) -> bool
     ensures { result ≡ member (map low stem.now) (map (map low) (names_from names.now n 0)) }
 {
-    let mut found = false;
-    let mut i: usize = 0;
-    'names: while i < n {
-        let s = slot_at(names, SlotNumber(i));
-        let Slot::At(start, size) = s else {
-            i += 1;
-            continue 'names;
-        };
-        if size != stem.len() {
-            i += 1;
-            continue 'names;
-        }
-        let mut j: usize = 0;
-        'bytes: loop {
-            if stem.len() <= j {
-                found = true;
-                break 'names;
+    for i in 0..n {
+        if let Slot::At(start, size) = slot_at(names, SlotNumber(i)) {
+            if names[start..start + size].eq_ignore_ascii_case(stem) {
+                return true;
             }
-            if lower(names[start + j]) != lower(stem[j]) {
-                break 'bytes;
-            }
-            j += 1;
         }
-        i += 1;
     }
-    found
+    false
 }
 
 // Whether names select an entry: none by its preference, else by its stem.
@@ -86,8 +63,7 @@ pub fn is_selected(table: &[u8], width: Width, i: usize, names: &[u8]) -> bool
 pub fn next_selected(table: &[u8], width: Width, entries: usize, names: &[u8], from: usize) -> usize
     ensures { result ≡ next_of (field_size width) names.now table.now (entries - from) from }
 {
-    let mut i = from;
-    while i < entries {
+    for i in from..entries {
         let e = entry_at(table, width, i);
         let there = e.there;
         if !there {
@@ -97,7 +73,6 @@ pub fn next_selected(table: &[u8], width: Width, entries: usize, names: &[u8], f
         if selects(names, entry) {
             return i;
         }
-        i += 1;
     }
-    i
+    from.max(entries)
 }

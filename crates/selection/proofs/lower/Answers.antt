@@ -1,16 +1,7 @@
--- `selection::lower` meets its contract: the two tests are the definition's. Assumes nothing.
-use borrow.Author.Tests.{le-leb, lt-leb}
-use Rattle.selection.specs.Selection.{low}
+-- `selection::lower` meets its contract: the library lowers as the definition does. Assumes nothing.
+use Rattle.std.proofs.Common.{◌∙◌}
+use Rattle.selection.proofs.Laws.{low_is}
 use Rattle.selection.proofs.lower.Goals as goal
 
-pub returns-then-b-le90 : goal.returns-then-b-le90
-unfolding low
-returns-then-b-le90 c = simp (le-leb _ _ c.if-b-ge65.true, le-leb _ _ c.if-b-le90.true)
-
-pub returns-else-b-le90 : goal.returns-else-b-le90
-unfolding low
-returns-else-b-le90 c = simp (le-leb _ _ c.if-b-ge65.true, lt-leb _ _ c.if-b-le90.false)
-
-pub returns-else-b-ge65 : goal.returns-else-b-ge65
-unfolding low
-returns-else-b-ge65 c = simp (lt-leb _ _ c.if-b-ge65.false)
+pub returns : goal.returns
+returns c = c.to_ascii_lowercase.ensures.value ∙ low_is c.args.b

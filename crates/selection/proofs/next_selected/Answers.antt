@@ -1,6 +1,7 @@
 -- `selection::next_selected` meets its contract. The loop's invariant: the search from here on is the whole search; behind the table's end it comes to
 -- `entries` by `next_beyond`. Assumes nothing.
 use mathlib.Core.Path.{◌≡◌, refl, sym, ap, ◌∙◌}
+use mathlib.Core.Logic.{⊎_elim}
 use Prim.Native.Nat.{ℕ, suc, ◌+◌, ◌-◌, ◌/◌, ◌≤◌}
 use mathlib.Core.Bool.{Bool, true, false}
 use mathlib.Core.List.{List}
@@ -9,6 +10,7 @@ use native.Mathlib.Omega.{arith}
 use lib.ListN.{length}
 use Rattle.field.specs.Field.{field_size}
 use Rattle.entry.specs.Entry.{entry_size}
+use Rattle.base.proofs.Ranges.{below_or_not}
 use Rattle.selection.specs.Selection.{selected_at, next_of}
 use Rattle.selection.proofs.Laws.{selected_told, beyond_told, next_here, next_on, next_none, next_beyond}
 use Rattle.selection.proofs.next_selected.Goals as goal
@@ -51,12 +53,6 @@ returns-then-selects c =
     let s : selected_at f names t l.i ≡ true = answered (goal.at.returns-then-selects c).After-selects true c.if-selects.true in
     sym (l.invariant ∙ ap (λ (k : ℕ). next_of f names t k l.i) k ∙ next_here f names t (a.entries - (l.i + 1)) l.i s)
 
-pub overflow_add-i : goal.overflow_add-i
-overflow_add-i c = omega arith
-
-pub loop-i-smaller : goal.loop-i-smaller
-loop-i-smaller c = omega arith
-
 pub loop-i-preserved : goal.loop-i-preserved
 loop-i-preserved c =
     let a = c.args in
@@ -75,5 +71,14 @@ returns c =
     let f : ℕ = field_size a.width in
     let t : List ℕ = a.table.now in
     let names : List ℕ = a.names.now in
+    let ended : a.entries ≤ l.i = c.loop-i-test.false in
+    ⊎_elim
+    (λ p.
+    let k : a.entries - a.from ≡ 0 = omega arith in
+    let m : c.max.result ≡ a.from = omega arith in
+    m ∙ sym (ap (λ (k : ℕ). next_of f names t k a.from) k ∙ next_none f names t a.from))
+    (λ p.
     let k : a.entries - l.i ≡ 0 = omega arith in
-    sym (l.invariant ∙ ap (λ (k : ℕ). next_of f names t k l.i) k ∙ next_none f names t l.i)
+    let m : c.max.result ≡ l.i = omega (arith, c.loop-i.auto.i-end p) in
+    m ∙ sym (l.invariant ∙ ap (λ (k : ℕ). next_of f names t k l.i) k ∙ next_none f names t l.i))
+    (below_or_not a.entries a.from)

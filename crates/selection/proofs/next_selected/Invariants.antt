@@ -9,6 +9,3 @@ use Rattle.selection.proofs.next_selected.Given as goal
 abbrev pub invariant-loop-i : goal.invariant-loop-i
 invariant-loop-i l =
     next_of (field_size l.width) l.names l.table (l.entries - l.from) l.from ≡ next_of (field_size l.width) l.names l.table (l.entries - l.i) l.i
-
-abbrev pub decreases-loop-i : goal.decreases-loop-i
-decreases-loop-i l = l.entries - l.i
