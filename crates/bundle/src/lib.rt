@@ -40,7 +40,7 @@ fn number(b: &[u8], at: usize) -> usize
     requires { at + 4 ≤ length b.now }
     ensures { (result ≡ le 4 (drop at b.now)) × (result < 4294967296) }
 {
-    u32::get(b, at) as usize
+    u32::load(b, at) as usize
 }
 
 // The start of slot i of n.

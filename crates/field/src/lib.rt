@@ -18,12 +18,12 @@ pub trait Number: Copy {
     ghost value: { Self → ℕ };
 
     // The number whose bytes lie at a place, the least first.
-    fn get(s: &[u8], at: usize) -> Self
+    fn load(s: &[u8], at: usize) -> Self
         requires { at + SIZE ≤ length s.now }
         ensures { result ≡ of (le SIZE (drop at s.now)) };
 
     // Its bytes, stored at a place.
-    fn set(self, d: &mut [u8], at: usize)
+    fn store(self, d: &mut [u8], at: usize)
         requires { at + SIZE ≤ length d.old }
         ensures { d.new ≡ sets d.old at (le_bytes SIZE (value self)) };
 
@@ -41,11 +41,11 @@ impl Number for u32 {
 
     ghost most = { Prim.search rules };
 
-    fn get(s: &[u8], at: usize) -> u32 {
+    fn load(s: &[u8], at: usize) -> u32 {
         u32::from_le_bytes([s[at], s[at + 1], s[at + 2], s[at + 3]])
     }
 
-    fn set(self, d: &mut [u8], at: usize) {
+    fn store(self, d: &mut [u8], at: usize) {
         let bytes = self.to_le_bytes();
         d[at..at + 4].copy_from_slice(&bytes);
     }
@@ -62,7 +62,7 @@ impl Number for u64 {
 
     ghost most = { Prim.search rules };
 
-    fn get(s: &[u8], at: usize) -> u64 {
+    fn load(s: &[u8], at: usize) -> u64 {
         u64::from_le_bytes([
             s[at],
             s[at + 1],
@@ -75,7 +75,7 @@ impl Number for u64 {
         ])
     }
 
-    fn set(self, d: &mut [u8], at: usize) {
+    fn store(self, d: &mut [u8], at: usize) {
         let bytes = self.to_le_bytes();
         d[at..at + 8].copy_from_slice(&bytes);
     }
@@ -105,7 +105,7 @@ pub fn field_at<T: Number>(s: &[u8], at: usize) -> Option<T>
     ensures { result ≡ field_at T.SIZE T.of s.now at }
 {
     if lies_within(s.len(), at, T::SIZE) {
-        Some(T::get(s, at))
+        Some(T::load(s, at))
     } else {
         None
     }
@@ -121,7 +121,7 @@ pub fn padded<T: Number>(s: &[u8], at: usize) -> T
     let there = &s[at.min(s.len())..];
     let mut bytes = [0u8; 8];
     bytes[..there.len()].copy_from_slice(there);
-    T::get(&bytes, 0)
+    T::load(&bytes, 0)
 }
 
 // Writes a field at a place.
@@ -132,7 +132,7 @@ pub fn put<T: Number>(d: &mut [u8], at: usize, v: T) -> Result<(), Short>
     if !lies_within(d.len(), at, T::SIZE) {
         return Err(Short);
     }
-    v.set(d, at);
+    v.store(d, at);
     Ok(())
 }
 

@@ -1,7 +1,7 @@
--- `set` of `u64` meets its contract: the library's bytes are those of `le_bytes`, and replace as many. Assumes nothing.
+-- `store` of `u64` meets its contract: the library's bytes are those of `le_bytes`, and replace as many. Assumes nothing.
 use mathlib.Core.Path.{◌∙◌}
 use Rattle.field.proofs.Laws.{bytes_of, length_le_bytes, part_stored}
-use Rattle.field.proofs.U64Number.set.Goals as goal
+use Rattle.field.proofs.U64Number.store.Goals as goal
 
 pub returns : goal.returns
 returns c =

@@ -1,7 +1,7 @@
--- `set` of `u32` meets its contract: the library's bytes are those of `le_bytes`, and replace as many. Assumes nothing.
+-- `store` of `u32` meets its contract: the library's bytes are those of `le_bytes`, and replace as many. Assumes nothing.
 use mathlib.Core.Path.{◌∙◌}
 use Rattle.field.proofs.Laws.{bytes_of, length_le_bytes, part_stored}
-use Rattle.field.proofs.U32Number.set.Goals as goal
+use Rattle.field.proofs.U32Number.store.Goals as goal
 
 pub returns : goal.returns
 returns c =
