@@ -3,12 +3,12 @@
 
 ghost use Rattle.std.specs.Prelude.{◌≡◌, [], ◌∷◌, ◌+◌, ◌≤◌, length};
 ghost use Rattle.std.proofs.lemmas.List.Edits.{sets};
-ghost use Rattle.field.specs.Field.{le_bytes, words};
+ghost use Rattle.field.specs.Field.{words};
 ghost use Rattle.base.specs.Told.{Tells};
 ghost use Rattle.build.specs.Build.{read_size, build_of, build_outcome, build_told};
 
 use command::{SaharaCmd, SaharaCmdModeCmd, SaharaMode};
-use field::{Width, put_u32, put_u64};
+use field::{Number, Width};
 use refusal::Refusal;
 
 // What is to be sent.
@@ -34,28 +34,13 @@ const SWITCH_MODE: u32 = 0x0c;
 
 const EXECUTE: u32 = 0x0d;
 
-// A field of 4 bytes, and one of 8, within the out buffer.
-fn word(out: &mut [u8], at: usize, v: u32)
-    requires { at + 4 ≤ length out.old }
-    ensures { out.new ≡ sets out.old at (le_bytes 4 v) }
-{
-    put_u32(out, at, v);
-}
-
-fn long(out: &mut [u8], at: usize, v: u64)
-    requires { at + 8 ≤ length out.old }
-    ensures { out.new ≡ sets out.old at (le_bytes 8 v) }
-{
-    put_u64(out, at, v);
-}
-
 // A packet's header.
 fn sahara_send_generic(out: &mut [u8], cmd: u32, len: u32)
     requires { 48 ≤ length out.old }
     ensures { out.new ≡ sets out.old 0 (words (cmd ∷ len ∷ [])) }
 {
-    word(out, 0, cmd);
-    word(out, 4, len);
+    cmd.store(out, 0);
+    len.store(out, 4);
 }
 
 // A packet whose body is one word.
@@ -64,7 +49,7 @@ fn one_word(out: &mut [u8], cmd: u32, v: u32)
     ensures { out.new ≡ sets out.old 0 (words (cmd ∷ 12 ∷ v ∷ [])) }
 {
     sahara_send_generic(out, cmd, 12);
-    word(out, 8, v);
+    v.store(out, 8);
 }
 
 // HelloResp's body: version, compatible, status, mode, six words of 0.
@@ -72,13 +57,13 @@ fn hello_body(out: &mut [u8], mode: u32)
     requires { 48 ≤ length out.old }
     ensures { out.new ≡ sets out.old 8 (words (2 ∷ 1 ∷ 0 ∷ mode ∷ 0 ∷ 0 ∷ 0 ∷ 0 ∷ 0 ∷ 0 ∷ [])) }
 {
-    word(out, 8, 2);
-    word(out, 12, 1);
-    word(out, 16, 0);
-    word(out, 20, mode);
-    long(out, 24, 0);
-    long(out, 32, 0);
-    long(out, 40, 0);
+    2u32.store(out, 8);
+    1u32.store(out, 12);
+    0u32.store(out, 16);
+    mode.store(out, 20);
+    0u64.store(out, 24);
+    0u64.store(out, 32);
+    0u64.store(out, 40);
 }
 
 // HelloResp, 48 bytes: the session's mode, whatever the device offered.
@@ -170,8 +155,8 @@ fn mem_read32(out: &mut [u8], addr: u32, len: u32) -> Result<usize, Refusal>
         return Err(Refusal::OutBuffer);
     }
     sahara_send_generic(out, u32::from(SaharaCmd::MemRead), 16);
-    word(out, 8, addr);
-    word(out, 12, len);
+    addr.store(out, 8);
+    len.store(out, 12);
     Ok(16)
 }
 
@@ -183,8 +168,8 @@ fn mem_read64(out: &mut [u8], addr: u64, len: u64) -> Result<usize, Refusal>
         return Err(Refusal::OutBuffer);
     }
     sahara_send_generic(out, u32::from(SaharaCmd::MemRead64), 24);
-    long(out, 8, addr);
-    long(out, 16, len);
+    addr.store(out, 8);
+    len.store(out, 16);
     Ok(24)
 }
 

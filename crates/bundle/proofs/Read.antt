@@ -8,21 +8,8 @@ use borrow.Author.Tests.{lt-ltb, le-ltb, le-leb, lt-leb, eq-eqb, ne_eqb}
 use lib.Dec.{leb, eqb}
 use lib.ListN.{length, drop}
 use Rattle.base.specs.Choice.{pick}
-use Rattle.field.specs.Field.{le, field4}
-use Rattle.field.specs.declared.Field4.TheVariants as F
-use Rattle.field.proofs.Laws.{field_is}
 use Rattle.bundle.specs.Bundle.{count_of, data_size_of, slot_start_of, slot_length_of, data_from, absent, slot_good, slots_good, well_formed, slot_of}
 use Rattle.bundle.specs.declared.Slot.TheVariants as S
-
--- a field that lies within the bytes is told
-pub field_told : (b : List ℕ) (at : ℕ) {v : ℕ} → at + 4 ≤ length b → field4 b at ≡ F.Is v → v ≡ le 4 (drop at b)
-field_told b at r e = let i = field_is 4 F.Is F.Short b at r in cc
-
-pub field_not_short : (b : List ℕ) (at : ℕ) → at + 4 ≤ length b → field4 b at ≡ F.Short → ⊥
-field_not_short b at r e =
-    let i = field_is 4 F.Is F.Short b at r in
-    let z : ◌≡◌ {A = ℕ} 0 1 = cc in
-    omega arith
 
 -- ---- a check, by the count n and the data size d
 

@@ -20,7 +20,7 @@ ghost use Rattle.bundle.specs.Bundle.{
   slot_told,
 };
 
-use field::{Field4, u32_at, word};
+use field::Number;
 use refusal::Refusal;
 
 // A slot's number in a bundle. It is no image ID: only the one-image rule (crate image) makes one of the other.
@@ -35,23 +35,12 @@ pub enum Slot {
     Missing,
 }
 
-// A number that lies within the bytes. Read with zeros for what is not there it would be simpler, and too large to be compiled in line.
+// A number that lies within the bytes.
 fn number(b: &[u8], at: usize) -> usize
     requires { at + 4 ≤ length b.now }
     ensures { (result ≡ le 4 (drop at b.now)) × (result < 4294967296) }
 {
-    match u32_at(b, at) {
-        Field4::Is(v) => v as usize,
-        Field4::Short => 0,
-    }
-}
-
-// The same of a slot, read without a test: a check's cost is that of its slots. (The count, read so, is compiled to three reads.)
-fn slot_number(b: &[u8], at: usize) -> usize
-    requires { at + 4 ≤ length b.now }
-    ensures { (result ≡ le 4 (drop at b.now)) × (result < 4294967296) }
-{
-    word(b[at], b[at + 1], b[at + 2], b[at + 3]) as usize
+    u32::load(b, at) as usize
 }
 
 // The start of slot i of n.
@@ -59,7 +48,7 @@ fn start_of(b: &[u8], n: usize, i: usize) -> usize
     requires { (8 + 8 * n ≤ length b.now) × (i < n) }
     ensures { (result ≡ slot_start_of b.now i) × (result < 4294967296) }
 {
-    slot_number(b, 8 + 4 * i)
+    number(b, 8 + 4 * i)
 }
 
 // The length of slot i of n.
@@ -67,7 +56,7 @@ fn length_of(b: &[u8], n: usize, i: usize) -> usize
     requires { (n ≡ count_of b.now) × (8 + 8 * n ≤ length b.now) × (i < n) }
     ensures { (result ≡ slot_length_of b.now i) × (result < 4294967296) }
 {
-    slot_number(b, 8 + 4 * n + 4 * i)
+    number(b, 8 + 4 * n + 4 * i)
 }
 
 // The mark of an absent slot.

@@ -5,7 +5,7 @@ ghost use Rattle.std.specs.Prelude.{◌≡◌, ◌+◌, ◌≤◌, length, take,
 ghost use Rattle.field.specs.Field.{le, field_size};
 ghost use Rattle.entry.specs.Entry.{entry_size, entries_in, decoded, entry_at};
 
-use field::{Width, field_size, u32_padded, u64_padded};
+use field::{Width, field_size, padded};
 
 // An entry; the numbers of 32 bits are widened.
 #[derive(Clone, Copy)]
@@ -42,8 +42,8 @@ fn number_at(table: &[u8], width: Width, at: usize) -> u64
     ensures { result ≡ le (field_size width) (drop at table.now) }
 {
     match width {
-        Width::Bits32 => u32_padded(table, at) as u64,
-        Width::Bits64 => u64_padded(table, at),
+        Width::Bits32 => padded::<u32>(table, at) as u64,
+        Width::Bits64 => padded(table, at),
     }
 }
 

@@ -2,7 +2,7 @@
 use mathlib.Core.Path.{◌≡◌, refl, sym, ap, ◌∙◌}
 use mathlib.Core.List.{List, [], ◌∷◌, ◌++◌, append_assoc, append-nil}
 use mathlib.Core.Logic.{⊎_elim, ◌⊎◌, inl, inr}
-use Prim.Native.Nat.{ℕ, zero, suc, ◌+◌, ◌*◌, ◌/◌, ◌%◌, ◌^◌, ◌<◌, ◌≤◌}
+use Prim.Native.Nat.{ℕ, zero, suc, min, ◌+◌, ◌-◌, ◌*◌, ◌/◌, ◌%◌, ◌^◌, ◌<◌, ◌≤◌}
 use native.Mathlib.Omega.{arith}
 use native.Mathlib.Nat.{
   pow-suc,
@@ -17,6 +17,7 @@ use native.Mathlib.Nat.{
   mul-suc,
   add_comm,
   zero-add,
+  add_assoc,
   pow-succ',
   one-le-pow,
   div-div-eq-div-mul,
@@ -28,12 +29,14 @@ use lib.Dec.{lit<}
 use lib.Seq.{sets, sets-eq, drop_at, drop-append-add, length-take-le}
 use Rattle.base.proofs.Lists.{sets_behind}
 use Rattle.base.proofs.Ranges.{below_or_not}
-use Rattle.field.specs.Field.{le, le_bytes, fields, field_at, field4, field8, put_at, written, field_size}
+use Rattle.std.specs.Prelude.{Some, None, Ok, Err, replicate}
+use Rattle.std.specs.Int.{byte_at, bytes_low_first}
+use Rattle.std.proofs.lemmas.Option.{none-some, same_Some}
+use Rattle.std.proofs.lemmas.List.{drop_min, length-drop, drop-drop, take_all}
+use borrow.Rule.Slice.PartMut.{put_mid}
+use Rattle.field.specs.Field.{le, le_bytes, fields, field_at, put_at, written, short, field_size}
 use Rattle.field.specs.declared.Width.{Width}
 use Rattle.field.specs.declared.Width.TheVariants as WI
-use Rattle.field.specs.declared.Field4.TheVariants as F4
-use Rattle.field.specs.declared.Field8.TheVariants as F8
-use Rattle.field.specs.declared.Put.TheVariants as P
 
 -- the first byte, and the rest
 pub le_step : (w : ℕ) (at : ℕ) (s : List ℕ) → le (suc w) (drop at s) ≡ get_or s at 0 + 256 * le w (drop (suc at) s)
@@ -100,6 +103,19 @@ le4 at s =
     let e3 : at + 3 ≡ suc (suc (suc at)) = omega arith in
     rw (le_step 3 at s, le_step 2 (suc at) s, le_step 1 (suc (suc at)) s, le_step 0 (suc (suc (suc at))) s, le_zero, e1, e2, e3) (omega arith)
 
+-- eight
+pub le8 : (at : ℕ) (s : List ℕ)
+    → le 8 (drop at s)
+    ≡ get_or s at 0
+    + 256 * (get_or s (at + 1) 0
+    + 256 * (get_or s (at + 2) 0
+    + 256 * (get_or s (at + 3) 0
+    + 256 * (get_or s (at + 4) 0
+    + 256 * (get_or s (at + 5) 0
+    + 256 * (get_or s (at + 6) 0
+    + 256 * get_or s (at + 7) 0))))))
+le8 at s = rw (le_split 4 4 at s, le4 at s, le4 (at + 4) s, add_assoc at 4 1, add_assoc at 4 2, add_assoc at 4 3) (omega arith)
+
 pow_pos256 : (w : ℕ) → zero < 256 ^ w
 pow_pos256 w = one-le-pow w 256 (lit< tt)
 
@@ -142,66 +158,71 @@ le_within w (suc at) zero s h = absurd (omega arith)
 le_within w (suc at) (suc n) [] h = refl
 le_within w (suc at) (suc n) (b ∷ bs) h = le_within w at n bs (omega arith)
 
--- a field that lies within the bytes is told; one that does not is short
-pub field_is : {A : Type 0} (w : ℕ) (is : ℕ → A) (short : A) (s : List ℕ) (at : ℕ) → at + w ≤ length s
-    → field_at w is short s at ≡ is (le w (drop at s))
-unfolding field_at
-field_is w is short s at h = simp (le-leb _ _ h)
+-- the library's bytes of a number, from byte i on, are those of this page
+byte_is : (i v : ℕ) → byte_at i v ≡ v / 256 ^ i % 256
+byte_is zero v = omega (arith, pow-zero 256)
+byte_is (suc i) v = refl
 
-pub field_short : {A : Type 0} (w : ℕ) (is : ℕ → A) (short : A) (s : List ℕ) (at : ℕ) → length s < at + w → field_at w is short s at ≡ short
-unfolding field_at
-field_short w is short s at h = simp (lt-leb _ _ h)
+bytes_from : (w i v : ℕ) → bytes_low_first i w v ≡ le_bytes w (v / 256 ^ i)
+unfolding le_bytes
+bytes_from zero i v = refl
+bytes_from (suc w) i v = rw (byte_is i v, bytes_from w (suc i) v, pow-suc 256 i, div-div-eq-div-mul v (256 ^ i) 256) refl
 
-pub put_done : (w : ℕ) (d : List ℕ) (at v : ℕ) → at + w ≤ length d → put_at w d at v ≡ written P.Done (sets d at (le_bytes w v))
+-- all of them
+pub bytes_of : (w v : ℕ) → bytes_low_first 0 w v ≡ le_bytes w v
+bytes_of w v = bytes_from w 0 v ∙ ap (le_bytes w) (omega (arith, pow-zero 256))
+
+-- a part of d replaced by as many bytes is those bytes stored
+pub part_stored : (at k : ℕ) (d e xs : List ℕ) → e ≡ xs → length xs ≡ k → at + k ≤ length d → put_mid at (at + k - at) d e ≡ sets d at xs
+part_stored at k d e xs r l h =
+    let m : at + k - at ≡ k = omega arith in
+    rw (m, r, sets-eq xs d at (rw l h), l, drop-drop k at d) (sym (append_assoc (take at d) xs (drop (at + k) d)))
+
+-- from a place on, a place past the end being the end
+pub from_place : (at m : ℕ) (s : List ℕ) → m ≡ min at (length s) → take (length s - m) (drop m s) ≡ drop at s
+from_place at m s e = rw (e, drop_min at s) (take_all (length s - min at (length s)) (drop at s) (rw length-drop (omega arith)))
+
+-- zeros behind the bytes say nothing
+pub le_zeros : (w k : ℕ) (s : List ℕ) → le w (s ++ replicate k 0) ≡ le w s
+unfolding le
+le_zeros zero k s = refl
+le_zeros (suc w) zero [] = refl
+le_zeros (suc w) (suc k) [] = let e = le_zeros w k [] ∙ le_past w 0 [] (omega arith) in omega (arith, e)
+le_zeros (suc w) k (b ∷ bs) = ap (λ (n : ℕ). b + 256 * n) (le_zeros w k bs)
+
+-- a field that lies within the bytes is told; of one that does not there is none
+pub field_is : {A : Type 0} (w : ℕ) (of : ℕ → A) (s : List ℕ) (at : ℕ) → at + w ≤ length s → field_at w of s at ≡ Some (of (le w (drop at s)))
+unfolding field_at
+field_is w of s at h = simp (le-leb _ _ h)
+
+pub field_short : {A : Type 0} (w : ℕ) (of : ℕ → A) (s : List ℕ) (at : ℕ) → length s < at + w → field_at w of s at ≡ None
+unfolding field_at
+field_short w of s at h = simp (lt-leb _ _ h)
+
+pub put_done : (w : ℕ) (d : List ℕ) (at v : ℕ) → at + w ≤ length d → put_at w d at v ≡ written (Ok tt) (sets d at (le_bytes w v))
 unfolding put_at
 put_done w d at v h = simp (le-leb _ _ h)
 
-pub put_short : (w : ℕ) (d : List ℕ) (at v : ℕ) → length d < at + w → put_at w d at v ≡ written P.Short d
+pub put_short : (w : ℕ) (d : List ℕ) (at v : ℕ) → length d < at + w → put_at w d at v ≡ written (Err short) d
 unfolding put_at
 put_short w d at v h = simp (lt-leb _ _ h)
 
 -- a field is told exactly where it lies within the bytes
-pub field_cases : {A : Type 0} (w : ℕ) (is : ℕ → A) (short : A) (s : List ℕ) (at : ℕ)
-    → ((field_at w is short s at ≡ is (le w (drop at s))) × (at + w ≤ length s)) ⊎ ((field_at w is short s at ≡ short) × (length s < at + w))
-field_cases w is short s at =
+pub field_cases : {A : Type 0} (w : ℕ) (of : ℕ → A) (s : List ℕ) (at : ℕ)
+    → ((field_at w of s at ≡ Some (of (le w (drop at s)))) × (at + w ≤ length s)) ⊎ ((field_at w of s at ≡ None) × (length s < at + w))
+field_cases w of s at =
     ⊎_elim
-    (λ (h : length s < at + w). inr (field_short w is short s at h, h))
-    (λ (h : at + w ≤ length s). inl (field_is w is short s at h, h))
+    (λ (h : length s < at + w). inr (field_short w of s at h, h))
+    (λ (h : at + w ≤ length s). inl (field_is w of s at h, h))
     (below_or_not (length s) (at + w))
 
--- so what is told says where the field lies, for any two answers that differ
-module _ {A : Type 0} (w : ℕ) (is : ℕ → A) (short : A) (differ : (v : ℕ) → is v ≡ short → ⊥) (one : (x y : ℕ) → is x ≡ is y → x ≡ y)
-    (s : List ℕ) (at : ℕ) where
-  pub told_is : (v : ℕ) → field_at w is short s at ≡ is v → (at + w ≤ length s) × (v ≡ le w (drop at s))
-  told_is v e =
-      ⊎_elim
-      (λ h. (h.1, one v (le w (drop at s)) (sym e ∙ h.0)))
-      (λ h. absurd (differ v (sym e ∙ h.0)))
-      (field_cases w is short s at)
+-- so what is told says where the field lies
+module _ {A : Type 0} (w : ℕ) (of : ℕ → A) (s : List ℕ) (at : ℕ) where
+  pub told_is : (x : A) → field_at w of s at ≡ Some x → (at + w ≤ length s) × (x ≡ of (le w (drop at s)))
+  told_is x e = ⊎_elim (λ h. (h.1, same_Some _ _ (sym e ∙ h.0))) (λ h. absurd (none-some _ (sym h.0 ∙ e))) (field_cases w of s at)
 
-  pub told_short : field_at w is short s at ≡ short → length s < at + w
-  told_short e =
-      ⊎_elim (λ h. absurd (differ (le w (drop at s)) (sym h.0 ∙ e))) (λ h. h.1) (field_cases w is short s at)
-
--- of 4 and of 8 bytes
-is≢short4 : (v : ℕ) → F4.Is v ≡ F4.Short → ⊥
-is≢short4 v e = let z : ◌≡◌ {A = ℕ} 0 1 = cc in omega arith
-
-is≢short8 : (v : ℕ) → F8.Is v ≡ F8.Short → ⊥
-is≢short8 v e = let z : ◌≡◌ {A = ℕ} 0 1 = cc in omega arith
-
-module _ (s : List ℕ) (at : ℕ) where
-  pub field4_is : (v : ℕ) → field4 s at ≡ F4.Is v → (at + 4 ≤ length s) × (v ≡ le 4 (drop at s))
-  field4_is = told_is 4 F4.Is F4.Short is≢short4 (λ x y e. cc) s at
-
-  pub field4_short : field4 s at ≡ F4.Short → length s < at + 4
-  field4_short = told_short 4 F4.Is F4.Short is≢short4 (λ x y e. cc) s at
-
-  pub field8_is : (v : ℕ) → field8 s at ≡ F8.Is v → (at + 8 ≤ length s) × (v ≡ le 8 (drop at s))
-  field8_is = told_is 8 F8.Is F8.Short is≢short8 (λ x y e. cc) s at
-
-  pub field8_short : field8 s at ≡ F8.Short → length s < at + 8
-  field8_short = told_short 8 F8.Is F8.Short is≢short8 (λ x y e. cc) s at
+  pub told_short : field_at w of s at ≡ None → length s < at + w
+  told_short e = ⊎_elim (λ h. absurd (none-some _ (sym e ∙ h.0))) (λ h. h.1) (field_cases w of s at)
 
 -- two lists with one front have its fields
 pub le_same : (w at k : ℕ) (s t : List ℕ) → at + w ≤ k → take k s ≡ take k t → le w (drop at s) ≡ le w (drop at t)

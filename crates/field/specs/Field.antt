@@ -1,15 +1,10 @@
 -- Little-endian fields over a width in bytes. Document 01, opening paragraph: "Values are little-endian, unsigned"; bincode 1 fixes the widths,
 -- 4 and 8. One definition each way. Of a field that does not lie within the bytes, `le` takes the missing ones for 0, and `field_at` has an answer of
 -- its own.
-use Rattle.std.specs.Prelude.{ℕ, zero, suc, ◌+◌, ◌*◌, ◌/◌, ◌%◌, List, [], ◌∷◌, ◌++◌, leb, length, drop}
+use Rattle.std.specs.Prelude.{ℕ, zero, suc, ◌+◌, ◌*◌, ◌/◌, ◌%◌, List, [], ◌∷◌, ◌++◌, leb, length, drop, Option, Some, None, Result, Ok, Err}
 use Rattle.std.proofs.lemmas.List.Edits.{sets}
 use Rattle.base.specs.Choice.{pick}
-use Rattle.field.specs.declared.Field4.{Field4}
-use Rattle.field.specs.declared.Field4.TheVariants as F4
-use Rattle.field.specs.declared.Field8.{Field8}
-use Rattle.field.specs.declared.Field8.TheVariants as F8
-use Rattle.field.specs.declared.Put.{Put}
-use Rattle.field.specs.declared.Put.TheVariants as P
+use Rattle.field.specs.declared.Short.{Short}
 use Rattle.field.specs.declared.Width.{Width}
 use Rattle.field.specs.declared.Width.TheVariants as WI
 
@@ -32,28 +27,24 @@ fields w (v ∷ vs) = le_bytes w v ++ fields w vs
 abbrev pub words : List ℕ → List ℕ
 words = fields 4
 
--- the field of w bytes at a place: told by `is` where it lies within the bytes, else `short`
-unfoldable pub field_at : {A : Type 0} → ℕ → (ℕ → A) → A → List ℕ → ℕ → A
-field_at w is short s at = pick (leb (at + w) (length s)) (is (le w (drop at s))) short
+-- the field of w bytes at a place, as `of` tells it, where it lies within the bytes
+unfoldable pub field_at : {A : Type 0} → ℕ → (ℕ → A) → List ℕ → ℕ → Option A
+field_at w of s at = pick (leb (at + w) (length s)) (Some (of (le w (drop at s)))) None
 
--- a field of 4 bytes, and one of 8
-abbrev pub field4 : List ℕ → ℕ → Field4
-field4 = field_at 4 F4.Is F4.Short
-
-abbrev pub field8 : List ℕ → ℕ → Field8
-field8 = field_at 8 F8.Is F8.Short
+abbrev pub short : Short
+short = record {}
 
 -- a write's whole outcome: whether the field was put, and the bytes afterwards
 pub record Written : Type 0 where
-  pub put : Put
+  pub put : Result Unit Short
   pub bytes : List ℕ
 
-abbrev pub written : Put → List ℕ → Written
+abbrev pub written : Result Unit Short → List ℕ → Written
 written p d = record { put = p; bytes = d }
 
 -- v written into w bytes at a place; nothing changes where they do not lie within
 unfoldable pub put_at : ℕ → List ℕ → ℕ → ℕ → Written
-put_at w d at v = pick (leb (at + w) (length d)) (written P.Done (sets d at (le_bytes w v))) (written P.Short d)
+put_at w d at v = pick (leb (at + w) (length d)) (written (Ok tt) (sets d at (le_bytes w v))) (written (Err short) d)
 
 -- ---- memory debug of 64 bits, and of 32: document 02, request 2: "MemDebug (9) and .. MemRead (0x0a), each an address and a length of 4 bytes. Their table
 -- entries are 52 bytes: preference, base and length in 4 bytes each"

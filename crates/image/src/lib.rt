@@ -6,7 +6,7 @@ ghost use Rattle.base.specs.Told.{Tells};
 ghost use Rattle.image.specs.Image.{slot_for, range_in, range_unjudged, range_of, range_told};
 
 use bundle::{Slot, SlotNumber, check_images, slot_at};
-use field::u32_padded;
+use field::padded;
 use refusal::Refusal;
 
 // The device's name for an image.
@@ -43,7 +43,7 @@ fn part_of(start: usize, size: usize, offset: u64, len: u64) -> Result<(usize, u
 pub fn image_range_unjudged(set: &[u8], id: ImageId, offset: u64, len: u64) -> Result<(usize, usize), Refusal>
     ensures { Tells range_told result (range_unjudged set.now id.0 offset len) }
 {
-    let n = u32_padded(set, 0);
+    let n: u32 = padded(set, 0);
     let slot = slot_for(n, id);
     match slot_at(set, slot) {
         Slot::At(start, size) => part_of(start, size, offset, len),

@@ -8,7 +8,7 @@ ghost use Rattle.entry.specs.Entry.{entries_in};
 ghost use Rattle.session.specs.Limits.{held_limit, filling_limit, region_limit};
 
 use entry::entries_in;
-use field::{Width, u32_padded};
+use field::{Width, padded};
 use packet::{LengthCheck, sahara_read_packet_length};
 use session::{Filling, Region};
 
@@ -23,7 +23,7 @@ pub fn reads_limit(reads: u64) -> bool
 pub fn length_in(window: [u8; 48]) -> u32
     ensures { result ≡ length_field window }
 {
-    u32_padded(&window, 4)
+    padded(&window, 4)
 }
 
 // Held packet bytes above 4,095 or, from the eighth on, not below a length of 8..4096 in their header.

@@ -40,7 +40,7 @@ fn least(a: usize, b: usize) -> usize
 }
 
 fn word(input: &[u8], at: usize) -> u32 {
-    field::u32_padded(input, at)
+    field::padded(input, at)
 }
 
 // The length at a place of the words, at most what is left.
@@ -99,7 +99,7 @@ fn backend_for(n: u32) -> QdlBackend {
 }
 
 fn long(s: &[u8], at: usize) -> u64 {
-    field::u64_padded(s, at)
+    field::padded(s, at)
 }
 
 fn width_for(n: u64) -> Width {

@@ -7,7 +7,7 @@ ghost use Rattle.selection.specs.Selection.{low, names_from, member, selected_by
 
 use bundle::{Slot, SlotNumber, slot_at};
 use entry::{RamdumpTable64, entry_at};
-use field::{Width, u32_padded};
+use field::{Width, padded};
 use filename::stem_len;
 
 // A letter of A..Z lowered; any other byte is itself.
@@ -36,7 +36,7 @@ fn named(names: &[u8], n: usize, stem: &[u8]) -> bool
 pub fn selects(names: &[u8], entry: RamdumpTable64) -> bool
     ensures { result ≡ selected_by names.now entry.save_pref entry.filename }
 {
-    let n = u32_padded(names, 0) as usize;
+    let n = padded::<u32>(names, 0) as usize;
     if n == 0 {
         return entry.save_pref != 0;
     }

@@ -8,7 +8,7 @@ ghost use Rattle.writer.specs.Writer.{data_of, start_for, most_data};
 ghost use Rattle.tidied.specs.Tidy.{first_contents};
 
 use bundle::{Slot, SlotNumber, slot_at};
-use field::u32_padded;
+use field::padded;
 
 // The most data bytes.
 pub const MOST: usize = 0xFFFFFFFE;
@@ -42,7 +42,7 @@ pub fn start_at(set: &[u8], i: usize, before: u32) -> u32
 pub fn slot_count(set: &[u8]) -> usize
     ensures { result ≡ count_of set.now }
 {
-    u32_padded(set, 0) as usize
+    padded::<u32>(set, 0) as usize
 }
 
 // The data bytes of the first n slots: how many, and of too many one more than the most.

@@ -16,7 +16,7 @@ ghost use Rattle.verdict.specs.Verdict.{
 
 use build::Request;
 use command::{SaharaCmdModeCmd, SaharaMode};
-use field::{Width, u32_padded};
+use field::{Width, padded};
 use image::{ImageId, image_range_unjudged};
 use refusal::Refusal;
 
@@ -113,7 +113,7 @@ pub fn on_done_resp(set: &[u8], status: u32) -> Result<Verdict, Refusal>
     if status == 1 {
         return Ok(Verdict::Finish(Finish::ImagesSent));
     }
-    if u32_padded(set, 0) == 1 {
+    if padded::<u32>(set, 0) == 1 {
         return Ok(Verdict::Finish(Finish::ImagesSent));
     }
     Ok(Verdict::Pass)

@@ -15,12 +15,12 @@ returns c =
     let w2 = c in
     let w1 = c in
     rw (
-      l3.long-3.ensures,
-      l2.long-2.ensures,
-      l1.long.ensures,
-      w4.word-4.ensures,
-      w3.word-3.ensures,
-      w2.word-2.ensures,
-      w1.word.ensures,
+      l3.store-7.ensures,
+      l2.store-6.ensures,
+      l1.store-5.ensures,
+      w4.store-4.ensures,
+      w3.store-3.ensures,
+      w2.store-2.ensures,
+      w1.store.ensures,
     )
     refl

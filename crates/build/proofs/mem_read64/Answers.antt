@@ -18,4 +18,4 @@ returns c =
     let l1 = c in
     let g = c in
     builds (Q.MemRead WI.Bits64 _ _) _ _ (omega arith)
-    (rw (l2.long-2.ensures, l1.long.ensures, g.sahara_send_generic.ensures, g.from.ensures) refl)
+    (rw (l2.store-2.ensures, l1.store.ensures, g.sahara_send_generic.ensures, g.from.ensures) refl)

@@ -8,4 +8,4 @@ unfolding fields le_bytes
 returns c =
     let w = c in
     let g = c in
-    rw (w.word.ensures, g.sahara_send_generic.ensures) refl
+    rw (w.store.ensures, g.sahara_send_generic.ensures) refl

@@ -8,4 +8,4 @@ unfolding fields le_bytes
 returns c =
     let w2 = c in
     let w1 = c in
-    rw (w2.word-2.ensures, w1.word.ensures) refl
+    rw (w2.store-2.ensures, w1.store.ensures) refl

@@ -6,12 +6,12 @@ use lib.ListN.{drop}
 use Rattle.field.specs.Field.{le}
 use Rattle.bundle.proofs.length_of.Goals as goal
 
-pub slot_number-requires : goal.slot_number-requires
-slot_number-requires c = omega (arith, c.requires.1, c.requires.2)
+pub number-requires : goal.number-requires
+number-requires c = omega (arith, c.requires.1, c.requires.2)
 
 pub returns : goal.returns
 returns c =
     let s = c in (
-      c.slot_number.ensures.0 ∙ ap (λ (n : ℕ). le 4 (drop (8 + 4 * n + 4 * s.args.i) s.args.b.now)) s.requires.0,
-      c.slot_number.ensures.1,
+      c.number.ensures.0 ∙ ap (λ (n : ℕ). le 4 (drop (8 + 4 * n + 4 * s.args.i) s.args.b.now)) s.requires.0,
+      c.number.ensures.1,
     )

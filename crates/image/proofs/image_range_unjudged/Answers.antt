@@ -18,7 +18,7 @@ slot_is c =
     let a = c.args in
     sym
     (c.slot_at.ensures.is
-    ∙ ap (slot_of a.set.now) (c.slot_for-slot.ensures ∙ ap (λ (n : ℕ). slot_for n a.id.0) c.u32_padded-n.ensures))
+    ∙ ap (slot_of a.set.now) (c.slot_for-slot.ensures ∙ ap (λ (n : ℕ). slot_for n a.id.0) c.padded-n.ensures))
 
 pub part_of-requires : goal.part_of-requires
 part_of-requires c =
