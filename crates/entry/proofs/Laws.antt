@@ -13,33 +13,36 @@ use Rattle.base.proofs.Lists.{part_of_first}
 use Rattle.base.proofs.Ranges.{by_test}
 use Rattle.field.specs.Field.{le}
 use Rattle.field.proofs.Laws.{le_within}
-use Rattle.entry.specs.declared.EntryAt.{EntryAt}
-use Rattle.entry.specs.Entry.{entry_size, entries_in, entry_of, filename_of, there, decoded, entry_in, entries_from, nothing, entry_at}
+use Rattle.std.specs.Prelude.{Some, None}
+use Rattle.entry.specs.declared.RamdumpTable64.{RamdumpTable64}
+use Rattle.entry.specs.Entry.{entry_size, entries_in, entry_of, filename_of, there, decoded, entry_in, entries_from, entry_at}
 
 -- a number that lies within the n bytes from m on is that of the whole list
 pub number_within : (w k n m : ℕ) (l : List ℕ) → k + w ≤ n → le w (drop k (take n (drop m l))) ≡ le w (drop (m + k) l)
 number_within w k n m l h = rw (le_within w k n (drop m l) h, drop-drop k m l) refl
 
 -- an entry that is there is told with its fields
-pub entry_there : (f : ℕ) (t : List ℕ) (i : ℕ) → there f t i ≡ true → entry_at f t i ≡ record { there = true; entry = decoded f (entry_of f t i) }
+pub entry_there : (f : ℕ) (t : List ℕ) (i : ℕ) → there f t i ≡ true → entry_at f t i ≡ Some (entry_in f t i)
 unfolding entry_at
 entry_there f t i h = simp h
 
--- of one that is not there, zeros
-pub entry_missing : (f : ℕ) (t : List ℕ) (i : ℕ) → there f t i ≡ false → entry_at f t i ≡ record { there = false; entry = nothing }
+-- one that is not there is not
+pub entry_missing : (f : ℕ) (t : List ℕ) (i : ℕ) → there f t i ≡ false → entry_at f t i ≡ None
 unfolding entry_at
 entry_missing f t i h = simp h
 
--- the answer's flag says whether the entry is there
-pub entry_flag : (f : ℕ) (t : List ℕ) (i : ℕ) → (entry_at f t i).there ≡ there f t i
-entry_flag f t i =
+-- what is told is there, and is the entry's bytes decoded; where nothing is told there is none
+pub entry_told : (f : ℕ) (t : List ℕ) (i : ℕ) {x : RamdumpTable64} → entry_at f t i ≡ Some x → (there f t i ≡ true) × (x ≡ entry_in f t i)
+entry_told f t i {x} e =
     by_test (there f t i)
-    (λ h. ap (λ (x : EntryAt). x.there) (entry_there f t i h) ∙ sym h)
-    (λ h. ap (λ (x : EntryAt). x.there) (entry_missing f t i h) ∙ sym h)
+    (λ h. let q : Some x ≡ Some (entry_in f t i) = sym e ∙ entry_there f t i h in (h, cc))
+    (λ h. let q : Some x ≡ None = sym e ∙ entry_missing f t i h in absurd (let z : ◌≡◌ {A = ℕ} 0 1 = cc in omega arith))
 
--- what an answer tells of an entry that is there is the entry's bytes decoded
-pub entry_told : (f : ℕ) (t : List ℕ) (i : ℕ) → (entry_at f t i).there ≡ true → (entry_at f t i).entry ≡ decoded f (entry_of f t i)
-entry_told f t i h = ap (λ (x : EntryAt). x.entry) (entry_there f t i (sym (entry_flag f t i) ∙ h))
+pub entry_untold : (f : ℕ) (t : List ℕ) (i : ℕ) → entry_at f t i ≡ None → there f t i ≡ false
+entry_untold f t i e =
+    by_test (there f t i)
+    (λ h. let q : Some (entry_in f t i) ≡ None = sym (entry_there f t i h) ∙ e in absurd (let z : ◌≡◌ {A = ℕ} 0 1 = cc in omega arith))
+    (λ h. h)
 
 -- the next entry's place
 next_place : (n i : ℕ) → n * (i + 1) ≡ n * i + n
@@ -67,8 +70,8 @@ there_below f t i =
     h ∙ sym (le-ltb i (length t / entry_size f) (omega arith)))
 
 -- what is found at one of them is the entry, decoded
-pub entry_found : (f : ℕ) (t : List ℕ) (i : ℕ) → i < entries_in f (length t) → (entry_at f t i).entry ≡ entry_in f t i
-entry_found f t i h = entry_told f t i (entry_flag f t i ∙ there_below f t i ∙ lt-ltb i (length t / entry_size f) h)
+pub entry_found : (f : ℕ) (t : List ℕ) (i : ℕ) → i < entries_in f (length t) → entry_at f t i ≡ Some (entry_in f t i)
+entry_found f t i h = entry_there f t i (there_below f t i ∙ lt-ltb i (length t / entry_size f) h)
 
 pub length_entries : (f : ℕ) (t : List ℕ) (k i : ℕ) → length (entries_from f t k i) ≡ k
 unfolding entries_from

@@ -16,8 +16,9 @@ use Rattle.base.proofs.Ranges.{by_test, by_then}
 use Rattle.bundle.specs.Bundle.{slot_of}
 use Rattle.bundle.specs.declared.Slot.TheVariants.{At}
 use Rattle.entry.specs.Entry.{entry_size, there, entry_at}
-use Rattle.entry.specs.declared.EntryAt.{EntryAt}
-use Rattle.entry.proofs.Laws.{entry_there, entry_flag, there_below, there_take, entry_of_take}
+use Rattle.std.specs.Prelude.{Some, None}
+use Rattle.entry.specs.declared.RamdumpTable64.{RamdumpTable64}
+use Rattle.entry.proofs.Laws.{there_below, there_take, entry_of_take, entry_told, entry_untold}
 use Rattle.selection.specs.Selection.{low, with_name, names_from, same, member, selected_by, selected, selected_at, next_of}
 
 -- the library lowers a byte as the definition does, and so a string of them
@@ -97,18 +98,17 @@ named_other b n stem i start size h e d =
 pub selected_missing : (f : ℕ) (names t : List ℕ) (i : ℕ) → there f t i ≡ false → selected_at f names t i ≡ false
 selected_missing f names t i h = rw h refl
 
--- one that is there, by what is told of it
-pub selected_told : (f : ℕ) (names t : List ℕ) (i : ℕ) (r : EntryAt) → r ≡ entry_at f t i → r.there ≡ true
-    → selected_by names r.entry.save_pref r.entry.filename ≡ selected_at f names t i
+-- one that is told, by what is told of it
+pub selected_told : (f : ℕ) (names t : List ℕ) (i : ℕ) {x : RamdumpTable64} → entry_at f t i ≡ Some x
+    → selected_by names x.save_pref x.filename ≡ selected_at f names t i
 unfolding selected
-selected_told f names t i r e h =
-    let w : there f t i ≡ true = sym (entry_flag f t i) ∙ sym (ap (λ (x : EntryAt). x.there) e) ∙ h in
-    ap (λ (x : EntryAt). selected_by names x.entry.save_pref x.entry.filename) (e ∙ entry_there f t i w) ∙ rw w refl
+selected_told f names t i e =
+    let w = entry_told f t i e in
+    ap (λ (x : RamdumpTable64). selected_by names x.save_pref x.filename) w.1 ∙ rw w.0 refl
 
--- one that is told not to be there lies behind the table's end
-pub beyond_told : (f : ℕ) (t : List ℕ) (i : ℕ) (r : EntryAt) → r ≡ entry_at f t i → r.there ≡ false → length t / entry_size f ≤ i
-beyond_told f t i r e h =
-    ltb-false i (length t / entry_size f) (sym (there_below f t i) ∙ sym (entry_flag f t i) ∙ sym (ap (λ (x : EntryAt). x.there) e) ∙ h)
+-- one that is not told lies behind the table's end
+pub beyond_told : (f : ℕ) (t : List ℕ) (i : ℕ) → entry_at f t i ≡ None → length t / entry_size f ≤ i
+beyond_told f t i e = ltb-false i (length t / entry_size f) (sym (there_below f t i) ∙ entry_untold f t i e)
 
 -- an entry that is selected is the next selected one
 pub next_here : (f : ℕ) (names t : List ℕ) (k i : ℕ) → selected_at f names t i ≡ true → next_of f names t (suc k) i ≡ i

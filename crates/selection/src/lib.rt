@@ -49,13 +49,10 @@ pub fn selects(names: &[u8], entry: RamdumpTable64) -> bool
 pub fn is_selected(table: &[u8], width: Width, i: usize, names: &[u8]) -> bool
     ensures { result ≡ selected_at (field_size width) names.now table.now i }
 {
-    let e = entry_at(table, width, i);
-    let there = e.there;
-    if !there {
-        return false;
+    match entry_at(table, width, i) {
+        Some(entry) => selects(names, entry),
+        None => false,
     }
-    let entry = e.entry;
-    selects(names, entry)
 }
 
 // The first selected entry from `from` on and before `entries`; `entries` where there is none (`from` where it is not below `entries`). The search ends
@@ -64,12 +61,9 @@ pub fn next_selected(table: &[u8], width: Width, entries: usize, names: &[u8], f
     ensures { result ≡ next_of (field_size width) names.now table.now (entries - from) from }
 {
     for i in from..entries {
-        let e = entry_at(table, width, i);
-        let there = e.there;
-        if !there {
+        let Some(entry) = entry_at(table, width, i) else {
             return entries;
-        }
-        let entry = e.entry;
+        };
         if selects(names, entry) {
             return i;
         }

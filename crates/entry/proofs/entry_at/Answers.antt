@@ -9,8 +9,7 @@ use lib.ListN.{length, take, drop}
 use borrow.Author.Tests.{le-ltb, lt-ltb}
 use Rattle.field.specs.Field.{field_size}
 use Rattle.entry.specs.Entry.{entry_size, there, decoded}
-use Rattle.entry.specs.declared.RamdumpTable64.{RamdumpTable64}
-use Rattle.entry.specs.declared.EntryAt.{EntryAt}
+use Rattle.std.specs.Prelude.{Some}
 use Rattle.entry.proofs.Laws.{entry_there, entry_missing, there_below, there_fits}
 use Rattle.entry.proofs.entry_at.Goals as goal
 use Rattle.entry.proofs.entry_at.Goals.{After-entry_size}
@@ -22,11 +21,7 @@ returns-then-entries_in-i c =
     let t : List ℕ = a.table.now in
     let n = c.entries_in.ensures in
     let e : there f t a.i ≡ false = there_below f t a.i ∙ le-ltb a.i (length t / entry_size f) (omega (arith, c.if-entries_in-i.true, n)) in
-    c.no_entry.ensures ∙ sym (entry_missing f t a.i e)
-
--- the answer with an entry
-abbrev found : RamdumpTable64 → EntryAt
-found x = record { there = true; entry = x }
+    sym (entry_missing f t a.i e)
 
 -- the entry is there
 fits : (c : After-entry_size)
@@ -41,8 +36,8 @@ fits c =
 pub overflow_mul-entry_size : goal.overflow_mul-entry_size
 overflow_mul-entry_size c = rw c.entry_size.ensures (omega (arith, fits (goal.at.overflow_mul-entry_size c).After-entry_size))
 
-pub decode-entry-requires : goal.decode-entry-requires
-decode-entry-requires c = rw c.entry_size.ensures (fits (goal.at.decode-entry-requires c).After-entry_size)
+pub decode-requires : goal.decode-requires
+decode-requires c = rw c.entry_size.ensures (fits (goal.at.decode-requires c).After-entry_size)
 
 pub returns : goal.returns
 returns c =
@@ -51,5 +46,5 @@ returns c =
     let t : List ℕ = a.table.now in
     let n = c.entries_in.ensures in
     let e : there f t a.i ≡ true = there_below f t a.i ∙ lt-ltb a.i (length t / entry_size f) (omega (arith, c.if-entries_in-i.false, n)) in
-    ap found (c.decode-entry.ensures ∙ ap (λ (n : ℕ). decoded f (take (entry_size f) (drop (n * a.i) t))) c.entry_size.ensures)
+    ap Some (c.decode.ensures ∙ ap (λ (n : ℕ). decoded f (take (entry_size f) (drop (n * a.i) t))) c.entry_size.ensures)
     ∙ sym (entry_there f t a.i e)

@@ -21,24 +21,22 @@ answered : (c : After-selects) (b : Bool) → c.selects.result ≡ b → (let a 
     selected_at (field_size a.width) a.names.now a.table.now c.loop-i.i ≡ b)
 answered c b e =
     let a = c.args in
-    let r = c.entry_at-e in
     let i : ℕ = c.loop-i.i in
-    sym (selected_told (field_size a.width) a.names.now a.table.now i r.result r.ensures c.if-not-there.false)
+    sym (selected_told (field_size a.width) a.names.now a.table.now i (sym c.entry_at.ensures ∙ c.in-Some.is))
     ∙ sym c.selects.ensures
     ∙ e
 
 pub loop-i-init : goal.loop-i-init
 loop-i-init c = refl
 
-pub returns-then-not-there : goal.returns-then-not-there
-returns-then-not-there c =
+pub returns-in_default : goal.returns-in_default
+returns-in_default c =
     let a = c.args in
     let l = c.loop-i in
     let f : ℕ = field_size a.width in
     let t : List ℕ = a.table.now in
     let names : List ℕ = a.names.now in
-    let r = c.entry_at-e in
-    let e : length t / entry_size f ≤ l.i = beyond_told f t l.i r.result r.ensures c.if-not-there.true in
+    let e : length t / entry_size f ≤ l.i = beyond_told f t l.i (sym c.entry_at.ensures ∙ c.in_default.is) in
     let k : l.i + (a.entries - l.i) ≡ a.entries = omega arith in
     sym (l.invariant ∙ next_beyond f names t (a.entries - l.i) l.i e ∙ k)
 
