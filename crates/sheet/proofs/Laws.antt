@@ -16,9 +16,9 @@ use Rattle.entry.specs.declared.RamdumpTable64.{RamdumpTable64}
 use Rattle.entry.proofs.Laws.{there_below, length_filename}
 use Rattle.filename.specs.Filename.{before}
 use Rattle.filename.proofs.Laws.{length_before, take_before}
-use Rattle.sheet.specs.Sheet.{
 use Rattle.std.specs.Prelude.{Ok, Err}
 use Rattle.refusal.specs.declared.Refusal.TheVariants as Refusal
+use Rattle.sheet.specs.Sheet.{
   blank,
   line_feed,
   printed,

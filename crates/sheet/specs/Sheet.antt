@@ -5,10 +5,11 @@
 -- as in entry/specs/Entry. A line is of a decoded entry, its numbers already widened: one rule for both widths.
 use Rattle.std.specs.Prelude.{ℕ, zero, suc, ◌+◌, ◌-◌, ◌*◌, ◌/◌, ◌%◌, ◌&&◌, List, [], ◌∷◌, ◌++◌, map, ltb, leb, eqb, length, drop, replicate, Result, Ok, Err}
 use Rattle.base.specs.Choice.{pick}
-use Rattle.base.specs.Told.{Told, told, told_refused}
+use Rattle.base.specs.Told.{Told}
 use Rattle.entry.specs.Entry.{entries_in, entry_in}
 use Rattle.entry.specs.declared.RamdumpTable64.{RamdumpTable64}
 use Rattle.filename.specs.Filename.{before}
+use Rattle.refusal.specs.Refusal.{made_told}
 use Rattle.refusal.specs.declared.Refusal.{Refusal}
 use Rattle.refusal.specs.declared.Refusal.TheVariants as Refusal
 
@@ -81,8 +82,7 @@ sheet_outcome s p = record { sheet = s; page = p }
 
 -- what the answer tells: an operation that accepts tells go, here with the bytes written
 abbrev pub sheet_told : Result ℕ Refusal → Told
-sheet_told (Ok k) = told 0 (k ∷ [])
-sheet_told (Err why) = told_refused why
+sheet_told = made_told
 
 abbrev pub sheet_outcome_told : SheetOutcome → Told
 sheet_outcome_told x = sheet_told x.sheet

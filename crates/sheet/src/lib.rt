@@ -23,13 +23,7 @@ ghost use Rattle.sheet.specs.Sheet.{
 use entry::{RamdumpTable64, entries_in, entry_at};
 use field::Width;
 use filename::find;
-
-// How many bytes of the page are the sheet, or the refusal.
-#[derive(Clone, Copy)]
-pub enum Sheet {
-    Made(usize),
-    Refused(Refusal),
-}
+use refusal::Refusal;
 
 // The bytes of a line.
 const LINE: usize = 57;
@@ -127,13 +121,12 @@ fn put_lines(page: &mut [u8], table: &[u8], width: Width, n: usize)
     ensures { page.new ≡ sets page.old 0 (lines_of (field_size width) table.now n) }
 {
     for i in 0..n {
-        let found = entry_at(table, width, i);
-        let e = found.entry;
+        let e = entry_at(table, width, i).unwrap();
         put_line(page, LINE * i, e);
     }
 }
 
-// The sheet of a table, a line an entry. Where the page is too short for all of them, none is written.
+// The sheet of a table, a line an entry: how many bytes of the page it is. Where the page is too short for all of them, none is written.
 pub fn region_sheet(table: &[u8], width: Width, page: &mut [u8]) -> Result<usize, Refusal>
     ensures { Tells sheet_outcome_told (sheet_outcome result page.new) (sheet_of (field_size width) table.now page.old) }
 {

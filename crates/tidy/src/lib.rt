@@ -16,19 +16,17 @@ ghost use Rattle.tidied.specs.Tidy.{
   tidy_told,
 };
 
-use bundle::{Checked, Slot, SlotNumber, check_images, slot_at};
+use bundle::{Slot, SlotNumber, check_images, slot_at};
 use copy::copy_into;
 use field::put_u32;
+use refusal::Refusal;
 use slot_sizes::{MOST, data_size, size_at, slot_count, start_at};
-use tidied::Tidied;
 
 // How long the tidy form of a set is.
 pub fn tidy_len(set: &[u8]) -> Result<usize, Refusal>
     ensures { Tells tidied_told result (tidy_len_of set.now) }
 {
-    let Ok(()) = check_images(set) else {
-        return Err(Refusal::TidySet);
-    };
+    check_images(set).or(Err(Refusal::TidySet))?;
     let n = slot_count(set);
     let size = data_size(set, n);
     if MOST < size {
@@ -100,7 +98,7 @@ fn put_form(to: &mut [u8], set: &[u8], n: usize, size: usize)
 
 // The tidy form, which is so long: written where it fits.
 fn tidy_of(set: &[u8], to: &mut [u8], len: usize) -> Result<usize, Refusal>
-    requires { tidy_len_of set.now ≡ Tidied.Made len }
+    requires { tidy_len_of set.now ≡ Ok len }
     ensures { tidy_outcome result to.new ≡ tidy_of set.now to.old }
 {
     if to.len() < len {
@@ -115,8 +113,6 @@ fn tidy_of(set: &[u8], to: &mut [u8], len: usize) -> Result<usize, Refusal>
 pub fn tidy(set: &[u8], to: &mut [u8]) -> Result<usize, Refusal>
     ensures { Tells tidy_told (tidy_outcome result to.new) (tidy_of set.now to.old) }
 {
-    match tidy_len(set) {
-        Ok(len) => tidy_of(set, to, len),
-        Err(why) => Err(why),
-    }
+    let len = tidy_len(set)?;
+    tidy_of(set, to, len)
 }

@@ -7,9 +7,8 @@ use native.Mathlib.Omega.{arith}
 use lib.Seq.{sets}
 use Rattle.field.specs.Field.{field_size}
 use Rattle.entry.specs.Entry.{entry_in}
-use Rattle.entry.specs.declared.EntryAt.{EntryAt}
 use Rattle.entry.specs.declared.RamdumpTable64.{RamdumpTable64}
-use Rattle.entry.proofs.Laws.{entry_found}
+use Rattle.entry.proofs.Laws.{entry_told, entry_found}
 use Rattle.sheet.specs.Sheet.{line_of, lines_of}
 use Rattle.sheet.proofs.Laws.{lines_more}
 use Rattle.sheet.proofs.put_lines.Goals as goal
@@ -18,6 +17,11 @@ pub loop-i-init : goal.loop-i-init
 unfolding lines_of
 loop-i-init c = refl
 
+pub unwrap-e-requires : goal.unwrap-e-requires
+unwrap-e-requires c =
+    let e = entry_found (field_size c.args.width) c.args.table.now c.loop-i.i (omega arith) in
+    rw (c.entry_at.ensures ∙ e) refl
+
 pub loop-i-preserved : goal.loop-i-preserved
 loop-i-preserved c =
     let l = c.loop-i in
@@ -25,7 +29,7 @@ loop-i-preserved c =
     let f : ℕ = field_size a.width in
     let t : List ℕ = a.table.now in
     let p : List ℕ = a.page.now in
-    let q : c.entry_at-found.result.entry ≡ entry_in f t l.i = ap (λ (x : EntryAt). x.entry) c.entry_at-found.ensures ∙ entry_found f t l.i (omega arith) in
+    let q : c.unwrap-e.result ≡ entry_in f t l.i = (entry_told f t l.i (sym c.entry_at.ensures ∙ c.unwrap-e.ensures)).1 in
     let x : c.put_line.new.page ≡ sets p 0 (lines_of f t (suc l.i)) =
     c.put_line.ensures
     ∙ ap (λ (y : RamdumpTable64). sets l.page (57 * l.i) (line_of y)) q
