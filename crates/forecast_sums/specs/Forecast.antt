@@ -2,15 +2,16 @@
 -- the memory reads including the table's. .. 26 when the names are malformed, checked first. 27 when the bytes or the memory reads pass 2^64 - 1, second."
 -- Entries are decoded, their numbers widened: no width is asked for. c is the most that one memory read asks for. What a session comes to is held against
 -- this in fetch_forecast/specs/Claim.
-use Rattle.std.specs.Prelude.{ℕ, ◌+◌, ◌-◌, ◌^◌, Bool, false, not, ◌||◌, List, [], ◌∷◌, length, nat_lt}
+use Rattle.std.specs.Prelude.{ℕ, ◌+◌, ◌-◌, ◌^◌, Bool, false, not, ◌||◌, List, [], ◌∷◌, Result, Ok, Err, length, nat_lt}
 use Rattle.base.specs.Choice.{pick}
-use Rattle.base.specs.Told.{Told, told, told_refused}
+use Rattle.base.specs.Told.{Told, told}
 use Rattle.bundle.specs.Bundle.{well_formed}
 use Rattle.entry.specs.declared.RamdumpTable64.{RamdumpTable64}
 use Rattle.selection.specs.Selection.{selected_by}
 use Rattle.verdict.specs.Opening.{chunks_in}
-use Rattle.forecast_sums.specs.declared.Foreseen.{Foreseen}
-use Rattle.forecast_sums.specs.declared.Foreseen.TheVariants as F
+use Rattle.forecast_sums.specs.declared.Forecast.{Forecast}
+use Rattle.refusal.specs.Refusal.{result_told}
+use Rattle.refusal.specs.declared.Refusal.{Refusal}
 use Rattle.refusal.specs.declared.Refusal.TheVariants as Refusal
 
 -- an entry is selected
@@ -42,11 +43,14 @@ abbrev pub passes : ℕ → Bool
 passes n = nat_lt (2 ^ 64 - 1) n
 
 -- 26, 27, or the three numbers. (The regions are no more than the list's entries)
-unfoldable pub forecast_of : ℕ → List RamdumpTable64 → List ℕ → Foreseen
+abbrev pub needs : ℕ → ℕ → ℕ → Forecast
+needs regions bytes reads = record { regions = regions; bytes = bytes; reads = reads }
+
+unfoldable pub forecast_of : ℕ → List RamdumpTable64 → List ℕ → Result Forecast Refusal
 forecast_of c es names =
-    pick (not (well_formed false names)) (F.Refused Refusal.ForecastNames)
-    (pick (passes (bytes_needed names es) || passes (reads_needed c names es)) (F.Refused Refusal.ForecastSum)
-    (F.Needs (regions_needed names es) (bytes_needed names es) (reads_needed c names es)))
+    pick (not (well_formed false names)) (Err Refusal.ForecastNames)
+    (pick (passes (bytes_needed names es) || passes (reads_needed c names es)) (Err Refusal.ForecastSum)
+    (Ok (needs (regions_needed names es) (bytes_needed names es) (reads_needed c names es))))
 
 -- what every promise of a forecast takes for c, no session being at hand there: the chunk of each session, whatever it is opened with (`chunk_is` of
 -- proofs/Laws)
@@ -54,6 +58,8 @@ unfoldable pub forecast_chunk : ℕ
 forecast_chunk = 4096
 
 -- what the answer tells: an operation that accepts tells go, here with the three numbers
-abbrev pub forecast_told : Foreseen → Told
-forecast_told (F.Needs regions bytes reads) = told 0 (regions ∷ bytes ∷ reads ∷ [])
-forecast_told (F.Refused why) = told_refused why
+abbrev pub needs_told : Forecast → Told
+needs_told f = told 0 (f.regions ∷ f.bytes ∷ f.reads ∷ [])
+
+abbrev pub forecast_told : Result Forecast Refusal → Told
+forecast_told = result_told needs_told

@@ -1,39 +1,34 @@
--- The sums while a list is gone through: before the first entry, with one more, with a list more, and at the end. These are the words of the functions that
+-- The sums while a list is gone through: before the first entry, with one more, and with a list more. These are the words of the functions that
 -- `forecast::forecast` and `forecast_table` share; that they come to `forecast_of` is `sums_are` of proofs/Laws.
-use Rattle.std.specs.Prelude.{ℕ, ◌+◌, ◌%◌, ◌^◌, false, List, [], ◌∷◌, ◌==◌}
+use Rattle.std.specs.Prelude.{ℕ, ◌+◌, ◌%◌, ◌^◌, false, List, [], ◌∷◌, Result, Ok, Err}
 use Rattle.base.specs.Choice.{pick}
 use Rattle.bundle.specs.Bundle.{well_formed}
 use Rattle.entry.specs.declared.RamdumpTable64.{RamdumpTable64}
 use Rattle.verdict.specs.Opening.{chunks_in}
-use Rattle.forecast_sums.specs.declared.Foreseen.{Foreseen}
-use Rattle.forecast_sums.specs.declared.Foreseen.TheVariants as F
-use Rattle.forecast_sums.specs.declared.Sums.{Sums}
-use Rattle.forecast_sums.specs.Forecast.{is_selected, passes}
+use Rattle.refusal.specs.declared.Refusal.{Refusal}
+use Rattle.refusal.specs.declared.Refusal.TheVariants as Refusal
+use Rattle.forecast_sums.specs.declared.Forecast.{Forecast}
+use Rattle.forecast_sums.specs.Forecast.{is_selected, passes, needs}
 
--- refused with this number, and nothing counted; the number is 0 where nothing is refused
-abbrev pub refused_sums : ℕ → Sums
-refused_sums why = record { regions = 0; bytes = 0; reads = 0; refused = why }
+-- the table's read, and no region; 26
+abbrev pub start_of : List ℕ → Result Forecast Refusal
+start_of names = pick (well_formed false names) (Ok (needs 0 0 1)) (Err Refusal.ForecastNames)
 
--- the table's read, and no region
-abbrev pub start_of : List ℕ → Sums
-start_of names = pick (well_formed false names) (record { regions = 0; bytes = 0; reads = 1; refused = 0 }) (refused_sums 26)
+-- with a selected region more, of this length; 27. The regions modulo 2^64, which no list that is lent comes to
+abbrev pub more_of : ℕ → Forecast → ℕ → Result Forecast Refusal
+more_of c f len =
+    pick (passes (f.bytes + len)) (Err Refusal.ForecastSum)
+    (pick (passes (f.reads + chunks_in c len)) (Err Refusal.ForecastSum)
+    (Ok (needs ((f.regions + 1) % 2 ^ 64) (f.bytes + len) (f.reads + chunks_in c len))))
 
--- with a selected region more, of this length; what is refused stays so. The regions modulo 2^64, which no list that is lent comes to
-abbrev pub more_of : ℕ → Sums → ℕ → Sums
-more_of c s len =
-    pick (s.refused == 0)
-    (pick (passes (s.bytes + len)) (refused_sums 27)
-    (pick (passes (s.reads + chunks_in c len)) (refused_sums 27)
-    (record { regions = (s.regions + 1) % 2 ^ 64; bytes = s.bytes + len; reads = s.reads + chunks_in c len; refused = 0 })))
-    s
+-- with any entry more; what is refused stays so
+abbrev pub add_of : ℕ → List ℕ → Forecast → RamdumpTable64 → Result Forecast Refusal
+add_of c names f e = pick (is_selected names e) (more_of c f e.len) (Ok f)
 
--- with any entry more
-abbrev pub add_of : ℕ → List ℕ → Sums → RamdumpTable64 → Sums
-add_of c names s e = pick (is_selected names e) (more_of c s e.len) s
+abbrev pub added : ℕ → List ℕ → Result Forecast Refusal → RamdumpTable64 → Result Forecast Refusal
+added c names (Ok f) e = add_of c names f e
+added c names (Err why) e = Err why
 
-unfoldable pub add_all : ℕ → List ℕ → Sums → List RamdumpTable64 → Sums
-add_all c names s [] = s
-add_all c names s (e ∷ es) = add_all c names (add_of c names s e) es
-
-abbrev pub foreseen_of : Sums → Foreseen
-foreseen_of s = pick (s.refused == 0) (F.Needs s.regions s.bytes s.reads) (F.Refused s.refused)
+unfoldable pub add_all : ℕ → List ℕ → Result Forecast Refusal → List RamdumpTable64 → Result Forecast Refusal
+add_all c names r [] = r
+add_all c names r (e ∷ es) = add_all c names (added c names r e) es

@@ -4,26 +4,19 @@
 ghost use Rattle.std.specs.Prelude.{◌≡◌};
 ghost use Rattle.verdict.specs.Opening.{chunks_in};
 ghost use Rattle.forecast_sums.specs.Forecast.{forecast_chunk};
-ghost use Rattle.forecast_sums.specs.Sums.{refused_sums, start_of, more_of, add_of, foreseen_of};
+ghost use Rattle.forecast_sums.specs.Sums.{start_of, more_of, add_of};
 
-use bundle::{Checked, check_names};
+use bundle::check_names;
 use entry::RamdumpTable64;
+use refusal::Refusal;
 use selection::selects;
 
-// The regions, their bytes, and the memory reads, the table's among them; or the refusal.
-#[derive(Clone, Copy)]
-pub enum Foreseen {
-    Needs(u64, u64, u64),
-    Refused(Refusal),
-}
-
-// The same while a list is gone through; refused is 0 while nothing is.
-#[derive(Clone, Copy)]
-pub struct Sums {
+// The regions, their bytes, and the memory reads, the table's among them.
+#[derive(Clone, Copy, Debug, PartialEq, Eq)]
+pub struct Forecast {
     pub regions: u64,
     pub bytes: u64,
     pub reads: u64,
-    pub refused: u8,
 }
 
 // The most that one memory read asks for.
@@ -40,71 +33,38 @@ fn chunk_reads(len: u64) -> u64
     whole + 1
 }
 
-// Nothing counts behind a refusal.
-fn refuse(why: Refusal) -> Sums
-    ensures { result ≡ refused_sums why }
-{
-    Sums {
-        regions: 0,
-        bytes: 0,
-        reads: 0,
-        refused: why,
-    }
-}
-
 // Before the first entry: the table's read.
-pub fn start(names: &[u8]) -> Sums
+pub fn start(names: &[u8]) -> Result<Forecast, Refusal>
     ensures { result ≡ start_of names.now }
 {
-    let Ok(()) = check_names(names) else {
-        return refuse(Refusal::ForecastNames);
-    };
-    Sums {
+    check_names(names).or(Err(Refusal::ForecastNames))?;
+    Ok(Forecast {
         regions: 0,
         bytes: 0,
         reads: 1,
-        refused: 0,
-    }
+    })
 }
 
-// With a selected region more; what is refused stays so. No sum is made that passes 2^64 - 1; the regions are counted modulo 2^64, and no list has so many.
-pub fn more(s: Sums, len: u64) -> Sums
-    ensures { result ≡ more_of forecast_chunk s len }
+// With a selected region more. No sum is made that passes 2^64 - 1; the regions are counted modulo 2^64, and no list has so many.
+pub fn more(f: Forecast, len: u64) -> Result<Forecast, Refusal>
+    ensures { result ≡ more_of forecast_chunk f len }
 {
-    if s.refused != 0 {
-        return s;
-    }
-    let reads = chunk_reads(len);
-    if u64::MAX - s.bytes < len {
-        return refuse(Refusal::ForecastSum);
-    }
-    if u64::MAX - s.reads < reads {
-        return refuse(Refusal::ForecastSum);
-    }
-    Sums {
-        regions: std::num::wrapping_add_u64(s.regions, 1),
-        bytes: s.bytes + len,
-        reads: s.reads + reads,
-        refused: 0,
-    }
+    let bytes = f.bytes.checked_add(len).ok_or(Refusal::ForecastSum)?;
+    let reads = f.reads.checked_add(chunk_reads(len)).ok_or(Refusal::ForecastSum)?;
+    Ok(Forecast {
+        regions: f.regions.wrapping_add(1),
+        bytes,
+        reads,
+    })
 }
 
 // With an entry more, selected or not.
-pub fn add(s: Sums, e: RamdumpTable64, names: &[u8]) -> Sums
-    ensures { result ≡ add_of forecast_chunk names.now s e }
+#[tactic(auto, unfolding(crate::specs::Forecast::is_selected))]
+pub fn add(f: Forecast, e: RamdumpTable64, names: &[u8]) -> Result<Forecast, Refusal>
+    ensures { result ≡ add_of forecast_chunk names.now f e }
 {
     if !selects(names, e) {
-        return s;
+        return Ok(f);
     }
-    more(s, e.len)
-}
-
-// Behind the last entry.
-pub fn finish(s: Sums) -> Foreseen
-    ensures { result ≡ foreseen_of s }
-{
-    if s.refused == 0 {
-        return Foreseen::Needs(s.regions, s.bytes, s.reads);
-    }
-    Foreseen::Refused(s.refused)
+    more(f, e.len)
 }
