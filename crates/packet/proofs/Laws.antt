@@ -34,11 +34,9 @@ use Rattle.packet.specs.Packet.{
   decode_of,
   kind_in,
 }
-use Rattle.packet.specs.declared.HelloResp.{HelloResp}
 use Rattle.packet.specs.declared.SaharaPacket.{SaharaPacket}
 use Rattle.std.specs.Prelude.{Result, Ok, Err}
 use Rattle.refusal.specs.declared.Refusal.{Refusal}
-use Rattle.refusal.specs.declared.Refusal.TheVariants as Refusal
 use Rattle.packet.specs.declared.SaharaPacketBody.{SaharaPacketBody}
 
 -- a body that is short is malformed; one that is not is read

@@ -17,7 +17,6 @@ use Rattle.packet.specs.declared.SaharaPacketBody.TheVariants as B
 use Rattle.packet.specs.declared.HelloResp.{HelloResp}
 use Rattle.packet.specs.declared.Debug64Req.{Debug64Req}
 use Rattle.refusal.specs.declared.Refusal.{Refusal}
-use Rattle.refusal.specs.declared.Refusal.TheVariants as Refusal
 use Rattle.packet.specs.declared.SaharaPacket.{SaharaPacket}
 use Rattle.refusal.specs.Refusal.{accepted}
 

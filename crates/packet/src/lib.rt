@@ -11,8 +11,8 @@ ghost use Rattle.packet.specs.Told.{decoded_told, length_told};
 ghost use Rattle.packet.specs.Packet.{unk_of, hello_words, address_length, body_of, kind_of, decode_of, length_checked};
 
 use command::{Class, SaharaCmd, SaharaCmdModeCmd, SaharaMode};
-use field::{Field4, Field8};
-use reader::{long_at, word_at};
+use field::Number;
+use reader::read_at;
 use refusal::Refusal;
 
 // The six words of a hello that nobody uses.
@@ -130,25 +130,12 @@ pub struct SaharaPacket {
     pub body: SaharaPacketBody,
 }
 
-// The field of 4 bytes at an offset, which lies within the bytes; and of 8.
-fn word(p: &[u8], at: usize) -> u32
-    requires { at + 4 ≤ length p.now }
-    ensures { result ≡ le 4 (drop at p.now) }
+// The field at an offset, which lies within the bytes.
+fn read<T: Number>(p: &[u8], at: usize) -> T
+    requires { at + T.SIZE ≤ length p.now }
+    ensures { result ≡ T.of (le T.SIZE (drop at p.now)) }
 {
-    match word_at(p, at) {
-        Field4::Is(v) => v,
-        Field4::Short => 0,
-    }
-}
-
-fn long(p: &[u8], at: usize) -> u64
-    requires { at + 8 ≤ length p.now }
-    ensures { result ≡ le 8 (drop at p.now) }
-{
-    match long_at(p, at) {
-        Field8::Is(v) => v,
-        Field8::Short => 0,
-    }
+    read_at(p, at).unwrap()
 }
 
 // The six words behind a hello's mode.
@@ -157,12 +144,12 @@ fn six_words(p: &[u8]) -> Unk
     ensures { result ≡ unk_of p.now }
 {
     Unk {
-        unk0: word(p, 24),
-        unk1: word(p, 28),
-        unk2: word(p, 32),
-        unk3: word(p, 36),
-        unk4: word(p, 40),
-        unk5: word(p, 44),
+        unk0: read(p, 24),
+        unk1: read(p, 28),
+        unk2: read(p, 32),
+        unk3: read(p, 36),
+        unk4: read(p, 40),
+        unk5: read(p, 44),
     }
 }
 
@@ -173,9 +160,9 @@ fn hello_words(p: &[u8], mode: SaharaMode) -> HelloResp
 {
     let unk = six_words(p);
     HelloResp {
-        ver: word(p, 8),
-        compatible: word(p, 12),
-        status: word(p, 16),
+        ver: read(p, 8),
+        compatible: read(p, 12),
+        status: read(p, 16),
         mode: mode,
         unk: unk,
     }
@@ -185,7 +172,7 @@ fn hello_req_body(p: &[u8]) -> Result<SaharaPacketBody, Refusal>
     requires { 48 ≤ length p.now }
     ensures { result ≡ body_of p.now K.Hello }
 {
-    let mode = SaharaMode::try_from(word(p, 20))?;
+    let mode = SaharaMode::try_from(read::<u32>(p, 20))?;
     let h = hello_words(p, mode);
     Ok(SaharaPacketBody::HelloReq(HelloReq {
         ver: h.ver,
@@ -200,7 +187,7 @@ fn hello_resp_body(p: &[u8]) -> Result<SaharaPacketBody, Refusal>
     requires { 48 ≤ length p.now }
     ensures { result ≡ body_of p.now K.HelloResp }
 {
-    let mode = SaharaMode::try_from(word(p, 20))?;
+    let mode = SaharaMode::try_from(read::<u32>(p, 20))?;
     Ok(SaharaPacketBody::HelloResp(hello_words(p, mode)))
 }
 
@@ -208,8 +195,8 @@ fn exec_resp_body(p: &[u8]) -> Result<SaharaPacketBody, Refusal>
     requires { 16 ≤ length p.now }
     ensures { result ≡ body_of p.now K.ExecuteResp }
 {
-    let command = SaharaCmdModeCmd::try_from(word(p, 8))?;
-    let len = word(p, 12);
+    let command = SaharaCmdModeCmd::try_from(read::<u32>(p, 8))?;
+    let len = read(p, 12);
     Ok(SaharaPacketBody::ExecResp(ExecResp { command, len }))
 }
 
@@ -217,7 +204,7 @@ fn exec_data_body(p: &[u8]) -> Result<SaharaPacketBody, Refusal>
     requires { 12 ≤ length p.now }
     ensures { result ≡ body_of p.now K.ExecuteData }
 {
-    let command = SaharaCmdModeCmd::try_from(word(p, 8))?;
+    let command = SaharaCmdModeCmd::try_from(read::<u32>(p, 8))?;
     Ok(SaharaPacketBody::ExecData(ExecData { command }))
 }
 
@@ -226,9 +213,9 @@ fn read_req(p: &[u8]) -> ReadReq
     ensures { Ok (B.ReadReq result) ≡ body_of p.now K.ReadData }
 {
     ReadReq {
-        image: word(p, 8),
-        offset: word(p, 12),
-        len: word(p, 16),
+        image: read(p, 8),
+        offset: read(p, 12),
+        len: read(p, 16),
     }
 }
 
@@ -238,8 +225,8 @@ fn mem64(p: &[u8]) -> Debug64Req
     ensures { result ≡ address_length p.now }
 {
     Debug64Req {
-        addr: long(p, 8),
-        len: long(p, 16),
+        addr: read(p, 8),
+        len: read(p, 16),
     }
 }
 
@@ -248,9 +235,9 @@ fn read_data64(p: &[u8]) -> ReadData64Req
     ensures { Ok (B.ReadData64Req result) ≡ body_of p.now K.ReadData64 }
 {
     ReadData64Req {
-        image: long(p, 8),
-        offset: long(p, 16),
-        len: long(p, 24),
+        image: read(p, 8),
+        offset: read(p, 16),
+        len: read(p, 24),
     }
 }
 
@@ -287,13 +274,11 @@ fn body_of(p: &[u8], kind: SaharaCmd) -> Result<SaharaPacketBody, Refusal>
         SaharaCmd::HelloResp => hello_resp_body(p),
         SaharaCmd::ReadData => Ok(SaharaPacketBody::ReadReq(read_req(p))),
         SaharaCmd::EndOfImage => Ok(SaharaPacketBody::Eoi(Eoi {
-            image: word(p, 8),
-            status: word(p, 12),
+            image: read(p, 8),
+            status: read(p, 12),
         })),
         SaharaCmd::Done => Ok(SaharaPacketBody::DoneReq),
-        SaharaCmd::DoneResp => Ok(SaharaPacketBody::DoneResp(DoneResp {
-            status: word(p, 8),
-        })),
+        SaharaCmd::DoneResp => Ok(SaharaPacketBody::DoneResp(DoneResp { status: read(p, 8) })),
         SaharaCmd::ResetResp => Ok(SaharaPacketBody::ResetResp),
         SaharaCmd::CommandReady => Ok(SaharaPacketBody::CommandReady),
         SaharaCmd::ExecuteResp => exec_resp_body(p),
@@ -308,12 +293,12 @@ fn body_of(p: &[u8], kind: SaharaCmd) -> Result<SaharaPacketBody, Refusal>
         }
         SaharaCmd::ReadData64 => Ok(SaharaPacketBody::ReadData64Req(read_data64(p))),
         SaharaCmd::MemDebug => Ok(SaharaPacketBody::DebugReq(DebugReq {
-            addr: word(p, 8),
-            len: word(p, 12),
+            addr: read(p, 8),
+            len: read(p, 12),
         })),
         SaharaCmd::MemRead => Ok(SaharaPacketBody::ReadMemReq(ReadMemReq {
-            addr: word(p, 8),
-            len: word(p, 12),
+            addr: read(p, 8),
+            len: read(p, 12),
         })),
     }
 }
@@ -336,10 +321,10 @@ pub fn sahara_parse_packet(p: &[u8]) -> Result<SaharaPacket, Refusal>
     if p.len() < 8 {
         return Err(Refusal::Body);
     }
-    match Class::from(word(p, 0)) {
+    match Class::from(read::<u32>(p, 0)) {
         Class::Kind(kind) => {
             let body = kind_of(p, kind)?;
-            let len = word(p, 4);
+            let len = read(p, 4);
             Ok(SaharaPacket { len, body })
         }
         Class::Xml => Err(Refusal::Xml),

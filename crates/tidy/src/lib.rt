@@ -18,7 +18,7 @@ ghost use Rattle.tidied.specs.Tidy.{
 
 use bundle::{Slot, SlotNumber, check_images, slot_at};
 use copy::copy_into;
-use field::put_u32;
+use field::Number;
 use refusal::Refusal;
 use slot_sizes::{MOST, data_size, size_at, slot_count, start_at};
 
@@ -42,7 +42,7 @@ fn put_starts(to: &mut [u8], set: &[u8], n: usize)
 {
     let mut sum: usize = 0;
     for i in 0..n {
-        put_u32(to, 8 + 4 * i, start_at(set, i, sum as u32));
+        start_at(set, i, sum as u32).store(to, 8 + 4 * i);
         sum += size_at(set, i);
     }
 }
@@ -53,7 +53,7 @@ fn put_lengths(to: &mut [u8], at: usize, set: &[u8], n: usize)
     ensures { to.new ≡ sets to.old at (words (map size_in (first_contents set.now n))) }
 {
     for i in 0..n {
-        put_u32(to, at + 4 * i, size_at(set, i) as u32);
+        (size_at(set, i) as u32).store(to, at + 4 * i);
     }
 }
 
@@ -89,8 +89,8 @@ fn put_form(to: &mut [u8], set: &[u8], n: usize, size: usize)
         × (n ≤ 64) }
     ensures { to.new ≡ sets to.old 0 (bundle_bytes (first_contents set.now n)) }
 {
-    put_u32(to, 0, n as u32);
-    put_u32(to, 4, size as u32);
+    (n as u32).store(to, 0);
+    (size as u32).store(to, 4);
     put_starts(to, set, n);
     put_lengths(to, 8 + 4 * n, set, n);
     put_data(to, 8 + 8 * n, set, n);

@@ -5,9 +5,7 @@ use Prim.Native.Nat.{ℕ, ◌+◌, ◌*◌, ◌≤◌}
 use native.Mathlib.Omega.{arith}
 use lib.ListN.{length}
 use lib.Seq.{sets, length-sets}
-use Rattle.field.specs.Field.{Written, le_bytes, written, put_at}
-use Rattle.field.specs.declared.Put.{Put}
-use Rattle.field.proofs.Laws.{put_done}
+use Rattle.field.specs.Field.{le_bytes}
 use Rattle.writer.specs.Writer.{data_of, bundle_bytes}
 use Rattle.writer.proofs.Laws.{length_bundle}
 use Rattle.tidied.specs.Tidy.{first_contents}
@@ -20,48 +18,41 @@ room : (set to : List ℕ) (n : ℕ)
     → 8 + 8 * n + length (data_of (first_contents set n)) ≤ length to
 room set to n h = omega (arith, h, length_bundle (first_contents set n), length_first set n)
 
--- a buffer behind a number's store
-stored : (p : Put) (d e : List ℕ) (at v : ℕ) → written p e ≡ put_at 4 d at v → at + 4 ≤ length d → e ≡ sets d at (le_bytes 4 v)
-stored p d e at v w h = ap (λ (x : Written). x.bytes) (w ∙ put_done 4 d at v h)
+-- both numbers' stores leave the buffer as long as it was
+counted : (to d e : List ℕ) (n size : ℕ) → d ≡ sets to 0 (le_bytes 4 n) → e ≡ sets d 4 (le_bytes 4 size) → length e ≡ length to
+counted to d e n size a b = simp length-sets at (ap length b) ∙ simp length-sets at (ap length a)
 
--- both numbers' stores
-counted : (set to d e : List ℕ) (n size : ℕ) (p q : Put)
-    → length (bundle_bytes (first_contents set n)) ≤ length to
-    → written p d ≡ put_at 4 to 0 n
-    → written q e ≡ put_at 4 d 4 size
-    → (d ≡ sets to 0 (le_bytes 4 n)) × (e ≡ sets d 4 (le_bytes 4 size)) × (length e ≡ length to)
-counted set to d e n size p q h x y =
-    let r = room set to n h in
-    let a : d ≡ sets to 0 (le_bytes 4 n) = stored p to d 0 n x (omega arith) in
-    let b : e ≡ sets d 4 (le_bytes 4 size) = stored q d e 4 size y (omega (arith, simp length-sets at (ap length a))) in
-    (a, b, (simp length-sets at (ap length b)) ∙ (simp length-sets at (ap length a)))
+pub store-requires : goal.store-requires
+store-requires c = let a = c.args in omega (arith, room a.set.now a.to.now a.n c.requires.0)
+
+pub store-requires-2 : goal.store-requires-2
+store-requires-2 c = let a = c.args in omega (arith, room a.set.now a.to.now a.n c.requires.0, simp length-sets at (ap length c.store.ensures))
 
 pub put_starts-requires : goal.put_starts-requires
 put_starts-requires c =
     let a = c.args in
-    let k = counted a.set.now a.to.now _ _ a.n a.size _ _ c.requires.0 c.put_u32.ensures c.put_u32-2.ensures in
+    let k = counted a.to.now _ _ a.n a.size c.store.ensures c.store-2.ensures in
     let r = room a.set.now a.to.now a.n c.requires.0 in
-    (omega (arith, k.2), omega arith)
+    (omega (arith, k), omega arith)
 
 pub put_lengths-requires : goal.put_lengths-requires
 put_lengths-requires c =
     let a = c.args in
-    let k = counted a.set.now a.to.now _ _ a.n a.size _ _ c.requires.0 c.put_u32.ensures c.put_u32-2.ensures in
+    let k = counted a.to.now _ _ a.n a.size c.store.ensures c.store-2.ensures in
     let r = room a.set.now a.to.now a.n c.requires.0 in
-    (omega (arith, simp length-sets at (ap length c.put_starts.ensures), k.2), omega arith)
+    (omega (arith, simp length-sets at (ap length c.put_starts.ensures), k), omega arith)
 
 pub put_data-requires : goal.put_data-requires
 put_data-requires c =
     let a = c.args in
-    let k = counted a.set.now a.to.now _ _ a.n a.size _ _ c.requires.0 c.put_u32.ensures c.put_u32-2.ensures in
+    let k = counted a.to.now _ _ a.n a.size c.store.ensures c.store-2.ensures in
     let r = room a.set.now a.to.now a.n c.requires.0 in
-    omega (arith, simp length-sets at (ap length c.put_lengths.ensures), simp length-sets at (ap length c.put_starts.ensures), k.2)
+    omega (arith, simp length-sets at (ap length c.put_lengths.ensures), simp length-sets at (ap length c.put_starts.ensures), k)
 
 pub returns : goal.returns
 returns c =
     let a = c.args in
-    let k = counted a.set.now a.to.now _ _ a.n a.size _ _ c.requires.0 c.put_u32.ensures c.put_u32-2.ensures in
     let e : a.size ≡ length (data_of (first_contents a.set.now a.n)) = omega arith in
     rw
-    (c.put_data.ensures, c.put_lengths.ensures, c.put_starts.ensures, k.1, k.0, e)
+    (c.put_data.ensures, c.put_lengths.ensures, c.put_starts.ensures, c.store-2.ensures, c.store.ensures, e)
     (form_stored a.set.now a.to.now a.n)

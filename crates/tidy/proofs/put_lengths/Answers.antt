@@ -5,8 +5,7 @@ use Prim.Native.Nat.{ℕ, suc, ◌+◌, ◌*◌}
 use native.Mathlib.Numerals.{add-one}
 use native.Mathlib.Omega.{arith}
 use lib.Seq.{sets}
-use Rattle.field.specs.Field.{Written, le_bytes, fields, words}
-use Rattle.field.proofs.Laws.{put_done}
+use Rattle.field.specs.Field.{le_bytes, fields, words}
 use Rattle.bundle.specs.Content.{size_in, content_of}
 use Rattle.tidied.specs.Tidy.{first_contents}
 use Rattle.tidied.proofs.Laws.{data_up_to, lengths_stored}
@@ -27,9 +26,8 @@ loop-i-preserved c =
     let l = c.loop-i in
     let a = c.args in
     let B : List ℕ = a.set.now in
-    let x : c.put_u32.new.d ≡ sets l.to (a.at + 4 * l.i) (le_bytes 4 c.size_at.result) =
-    ap (λ (y : Written). y.bytes) (c.put_u32.ensures ∙ put_done _ _ _ _ (omega arith)) in
-    let y : c.put_u32.new.d ≡ sets a.to.now a.at (words (map size_in (first_contents B (suc l.i)))) =
+    let x : c.store.new.d ≡ sets l.to (a.at + 4 * l.i) (le_bytes 4 c.size_at.result) = c.store.ensures in
+    let y : c.store.new.d ≡ sets a.to.now a.at (words (map size_in (first_contents B (suc l.i)))) =
     x
     ∙ ap (λ (k : ℕ). sets l.to (a.at + 4 * l.i) (le_bytes 4 k)) c.size_at.ensures
     ∙ ap (λ (d : List ℕ). sets d (a.at + 4 * l.i) (le_bytes 4 (size_in (content_of B l.i)))) l.invariant
