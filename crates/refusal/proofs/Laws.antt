@@ -1,10 +1,10 @@
 -- A refusal is found again by its number; number and values tell apart what operations give or refuse, where they tell apart what is given. Assumes nothing.
 use Rattle.std.proofs.Common.{refl}
-use Rattle.std.specs.Prelude.{◌≡◌, false, Result, Ok, Err, eqb, get_or}
+use Rattle.std.specs.Prelude.{◌≡◌, ℕ, [], ◌∷◌, false, Result, Ok, Err, eqb, get_or}
 use Rattle.base.specs.Choice.{pick}
-use Rattle.base.specs.Told.{Told, told_go}
+use Rattle.base.specs.Told.{Told, told, told_go}
 use Rattle.base.proofs.Telling.{apart}
-use Rattle.refusal.specs.Refusal.{refusal_number, refusal_of, result_told, accepted_told}
+use Rattle.refusal.specs.Refusal.{refusal_number, refusal_of, result_told, accepted_told, made_told}
 use Rattle.refusal.specs.declared.Refusal.{Refusal}
 use Rattle.refusal.specs.declared.Refusal.TheVariants as Refusal
 
@@ -61,3 +61,6 @@ result_apart t back other h = apart (result_told t) (result_from back) (result_b
 
 pub accepted_apart : (x y : Result Unit Refusal) → accepted_told x ≡ accepted_told y → x ≡ y
 accepted_apart = result_apart (λ _. told_go) (λ _. tt) (λ _. refl) (λ _. refl)
+
+pub made_apart : (x y : Result ℕ Refusal) → made_told x ≡ made_told y → x ≡ y
+made_apart = result_apart (λ k. told 0 (k ∷ [])) (λ t. get_or t.values 0 0) (λ _. refl) (λ _. refl)

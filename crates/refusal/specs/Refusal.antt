@@ -1,7 +1,7 @@
 -- The refusals with their numbers. Document 01, "Refusals, operation by operation": 1 to 23; document 02: 24 (request 2), 25 (request 3), 26 and 27 (request
 -- 5), 28 and 29 (request 6).
 use Rattle.std.specs.Prelude.{ℕ, ◌-◌, List, [], ◌∷◌, Result, Ok, Err, get_or}
-use Rattle.base.specs.Told.{Told, told_go, told_refused}
+use Rattle.base.specs.Told.{Told, told, told_go, told_refused}
 use Rattle.refusal.specs.declared.Refusal.{Refusal}
 use Rattle.refusal.specs.declared.Refusal.TheVariants as Refusal
 
@@ -84,3 +84,7 @@ accepted = Ok tt
 
 abbrev pub accepted_told : Result Unit Refusal → Told
 accepted_told = result_told (λ _. told_go)
+
+-- and one that makes so many bytes: go, here with their count
+abbrev pub made_told : Result ℕ Refusal → Told
+made_told = result_told (λ k. told 0 (k ∷ []))

@@ -21,10 +21,11 @@ use Rattle.writer.specs.Writer.{data_of, start_for, starts_from, bundle_bytes, m
 use Rattle.writer.proofs.Laws.{data_more, starts_more, length_starts, length_bundle}
 use Rattle.tidied.specs.Tidy.{first_contents, contents_of, tidy_bytes, tidy_data, tidy_len_of, tidy_of, tidy_outcome}
 use Rattle.std.specs.Prelude.{Ok, Err}
+use Rattle.refusal.specs.declared.Refusal.{Refusal}
 use Rattle.refusal.specs.declared.Refusal.TheVariants as Refusal
 
 -- the answers differ
-pub refused≢made : {why k : ℕ} → Err why ≡ Ok k → ⊥
+pub refused≢made : {why : Refusal} {k : ℕ} → Err why ≡ Ok k → ⊥
 refused≢made q = let z : ◌≡◌ {A = ℕ} 0 1 = cc in omega arith
 
 -- ---- the first slots of a set
@@ -175,7 +176,7 @@ module _ (set : List ℕ) where
       (t.0, ltb-false _ _ u.0, (let q : length (tidy_bytes set) ≡ len = cc in q))
 
   module _ (to : List ℕ) where
-    pub tidy_refused : (why : ℕ) → tidy_len_of set ≡ Err why → tidy_of set to ≡ tidy_outcome (Err why) to
+    pub tidy_refused : (why : Refusal) → tidy_len_of set ≡ Err why → tidy_of set to ≡ tidy_outcome (Err why) to
     unfolding tidy_of
     tidy_refused why e = simp e
 

@@ -4,10 +4,11 @@
 -- "trailing absent slots dropped": "tidying preserves the count". What a bundle of these slots looks like: writer/specs/Writer.
 use Rattle.std.specs.Prelude.{ℕ, zero, suc, true, List, [], ◌∷◌, ◌++◌, ltb, length, drop, Result, Ok, Err}
 use Rattle.base.specs.Choice.{pick}
-use Rattle.base.specs.Told.{Told, told, told_refused}
+use Rattle.base.specs.Told.{Told}
 use Rattle.bundle.specs.Bundle.{count_of, well_formed}
 use Rattle.bundle.specs.Content.{Content, content_of}
 use Rattle.writer.specs.Writer.{data_of, bundle_bytes, most_data}
+use Rattle.refusal.specs.Refusal.{made_told}
 use Rattle.refusal.specs.declared.Refusal.{Refusal}
 use Rattle.refusal.specs.declared.Refusal.TheVariants as Refusal
 
@@ -50,8 +51,7 @@ tidy_of set to = placed (tidy_bytes set) to (tidy_len_of set)
 
 -- what the answer tells: an operation that accepts tells go, here with the form's length
 abbrev pub tidied_told : Result ℕ Refusal → Told
-tidied_told (Ok k) = told 0 (k ∷ [])
-tidied_told (Err why) = told_refused why
+tidied_told = made_told
 
 abbrev pub tidy_told : TidyOutcome → Told
 tidy_told x = tidied_told x.tidied

@@ -1,9 +1,2 @@
-// What a tidying answers. The tidy form's definition, its laws and what is claimed of it stand beside; the code is in crate tidy.
+// The tidy form of an image set: its definition, its laws and what is claimed of it. The code is in crate tidy.
 #![tactic(auto)]
-
-// How many bytes the tidy form has, or the refusal.
-#[derive(Clone, Copy)]
-pub enum Tidied {
-    Made(usize),
-    Refused(Refusal),
-}
