@@ -9,45 +9,36 @@ ghost use Rattle.forecast_sums.specs.Forecast.{forecast_of, forecast_chunk, fore
 
 use entry::{RamdumpTable64, entries_in, entry_at};
 use field::Width;
-use forecast_sums::{Foreseen, add, finish, start};
+use forecast_sums::{Forecast, add, start};
+use refusal::Refusal;
 
 // Of a list of entries.
-pub fn forecast(entries: &[RamdumpTable64], names: &[u8]) -> Foreseen
+pub fn forecast(entries: &[RamdumpTable64], names: &[u8]) -> Result<Forecast, Refusal>
     ensures { Tells forecast_told result (forecast_of forecast_chunk entries.now names.now) }
 {
-    let mut s = start(names);
+    let mut sums = start(names)?;
     for e in entries {
-        s = add(s, *e, names);
+        sums = add(sums, *e, names)?;
     }
-    finish(s)
+    Ok(sums)
 }
 
 // Of the entries of a table.
-pub fn forecast_table(table: &[u8], width: Width, names: &[u8]) -> Foreseen
+pub fn forecast_table(table: &[u8], width: Width, names: &[u8]) -> Result<Forecast, Refusal>
     ensures { Tells forecast_told result (forecast_of forecast_chunk (entries_of (field_size width) table.now) names.now) }
 {
-    let mut s = start(names);
+    let mut sums = start(names)?;
     for i in 0..entries_in(width, table.len()) {
-        let found = entry_at(table, width, i);
-        s = add(s, found.entry, names);
+        let e = entry_at(table, width, i).unwrap();
+        sums = add(sums, e, names)?;
     }
-    finish(s)
+    Ok(sums)
 }
 
-// Of the first n of an array's entries, which are lent here as a list.
-fn forecast_lent(entries: [RamdumpTable64; 8], n: usize, names: &[u8]) -> Foreseen
-    requires { n ≤ 8 }
+// Of the first n of an array's entries, for a caller that has no list to lend; of n above 8, all of them. The array has its length beside it since
+// docs/DECISIONS.md promises plain parameters here.
+pub fn forecast_of(entries: [RamdumpTable64; 8], n: usize, names: &[u8]) -> Result<Forecast, Refusal>
     ensures { Tells forecast_told result (forecast_of forecast_chunk (take n entries) names.now) }
 {
-    forecast(&entries[..n], names)
-}
-
-// The same for a caller that has no list to lend; of n above 8, all of them.
-pub fn forecast_of(entries: [RamdumpTable64; 8], n: usize, names: &[u8]) -> Foreseen
-    ensures { Tells forecast_told result (forecast_of forecast_chunk (take n entries) names.now) }
-{
-    if 8 < n {
-        return forecast_lent(entries, 8, names);
-    }
-    forecast_lent(entries, n, names)
+    forecast(&entries[..n.min(8)], names)
 }

@@ -1,6 +1,6 @@
 -- Laws of tests: two that say the same are equal, and what the answer about a packet's length says of it. Assumes nothing.
 use mathlib.Core.Path.{◌≡◌, refl, sym, ◌∙◌}
-use mathlib.Core.Bool.{Bool, true, false, not, ◌&&◌, ◌||◌}
+use mathlib.Core.Bool.{Bool, true, false}
 use mathlib.Core.Logic.{⊎_elim}
 use Prim.Native.Nat.{ℕ, ◌<◌, ◌≤◌}
 use native.Mathlib.Omega.{arith}
@@ -8,8 +8,8 @@ use borrow.Author.Tests.{lt-ltb, le-ltb}
 use lib.Dec.{ltb}
 use Rattle.base.specs.Choice.{pick}
 use Rattle.base.proofs.Ranges.{below_or_not}
-use Rattle.std.specs.Prelude.{Ok, Err}
-use Rattle.refusal.specs.declared.Refusal.TheVariants as Refusal
+use Rattle.std.specs.Prelude.{Err}
+use Rattle.refusal.specs.declared.Refusal.{Refusal}
 use Rattle.refusal.specs.Refusal.{accepted}
 
 -- two tests that hold together are equal
@@ -22,19 +22,6 @@ pub good_length : (b : Bool) → pick b (Err Refusal.PacketLength) accepted ≡ 
 good_length true h = let z : ◌≡◌ {A = ℕ} 0 1 = cc in absurd (omega arith)
 good_length false h = refl
 
-pub refused_length : (b : Bool) (why : ℕ) → pick b (Err Refusal.PacketLength) accepted ≡ Err why → b ≡ true
+pub refused_length : (b : Bool) (why : Refusal) → pick b (Err Refusal.PacketLength) accepted ≡ Err why → b ≡ true
 refused_length true why h = refl
 refused_length false why h = let z : ◌≡◌ {A = ℕ} 0 1 = cc in absurd (omega arith)
-
--- four tests one after the other: each answer is that of the first that holds
-pub no_entry : {a b : Bool} (c d : Bool) → a ≡ false → b ≡ true → true ≡ (a || b || c || d)
-no_entry c d ha hb = simp (ha, hb)
-
-pub too_much : {a b c : Bool} (d : Bool) → a ≡ false → b ≡ false → c ≡ true → true ≡ (a || b || c || d)
-too_much d ha hb hc = simp (ha, hb, hc)
-
-pub none_yet : {a b c z : Bool} (d : Bool) → a ≡ false → b ≡ false → c ≡ false → z ≡ true → false ≡ (a || b || c || (not z && d))
-none_yet d ha hb hc hz = simp (ha, hb, hc, hz)
-
-pub to_its_end : {a b c z d : Bool} → a ≡ false → b ≡ false → c ≡ false → z ≡ false → d ≡ (a || b || c || (not z && d))
-to_its_end ha hb hc hz = simp (ha, hb, hc, hz)

@@ -1,4 +1,3 @@
-pub mod Region
 pub mod Waiting
 pub mod Packet
 pub mod Held

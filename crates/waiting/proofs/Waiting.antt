@@ -43,7 +43,6 @@ use Rattle.waiting.specs.Waiting.{InOrder}
 use Rattle.field.proofs.Laws.{le_same}
 use Rattle.std.specs.Prelude.{Result, Ok, Err}
 use Rattle.refusal.specs.declared.Refusal.{Refusal}
-use Rattle.refusal.specs.declared.Refusal.TheVariants as Refusal
 
 -- ---- the window
 
