@@ -1,31 +1,62 @@
 -- `forecast::forecast` meets its contract: an entry more is the first of those that were left, and behind the last none is left. Assumes nothing.
 use Rattle.std.proofs.Common.{◌≡◌, ℕ, ◌+◌, ◌<◌, ◌≤◌, List, length, get_or, drop, refl, sym, ap, ◌∙◌, add-one, arith, drop-cons, drop_of_length-le}
+use Rattle.std.proofs.lemmas.Result.{err_from_is_err_and}
+use Rattle.std.specs.Prelude.{Result, Ok, Err}
 use Rattle.base.proofs.Telling.{tells}
+use Rattle.refusal.specs.declared.Refusal.{Refusal}
 use Rattle.entry.specs.declared.RamdumpTable64.{RamdumpTable64}
-use Rattle.forecast_sums.specs.Forecast.{forecast_chunk as chunk, forecast_told}
-use Rattle.forecast_sums.specs.Sums.{start_of, add_of, add_all, foreseen_of}
-use Rattle.forecast_sums.specs.declared.Sums.{Sums}
-use Rattle.forecast_sums.proofs.Laws.{sums_are}
+use Rattle.forecast_sums.specs.Forecast.{forecast_of, forecast_chunk as chunk, forecast_told}
+use Rattle.forecast_sums.specs.Sums.{start_of, added, add_all}
+use Rattle.forecast_sums.specs.declared.Forecast.{Forecast}
+use Rattle.forecast_sums.proofs.Laws.{sums_are, stays}
 use Rattle.forecast.proofs.forecast.Goals as goal
 
 -- of the entries from i on, the first is added and the rest are left
-one_added : (names : List ℕ) (es : List RamdumpTable64) (i : ℕ) (e : RamdumpTable64) (s : Sums) → i < length es
-    → add_all chunk names (add_of chunk names s (get_or es i e)) (drop (i + 1) es) ≡ add_all chunk names s (drop i es)
+one_added : (names : List ℕ) (es : List RamdumpTable64) (i : ℕ) (e : RamdumpTable64) (s : Result Forecast Refusal) → i < length es
+    → add_all chunk names (added chunk names s (get_or es i e)) (drop (i + 1) es) ≡ add_all chunk names s (drop i es)
 unfolding add_all
 one_added names es i e s h = rw (add-one i, drop-cons es i e h) refl
 
-none_left : (names : List ℕ) (es : List RamdumpTable64) (i : ℕ) (s : Sums) → length es ≤ i → add_all chunk names s (drop i es) ≡ s
+none_left : (names : List ℕ) (es : List RamdumpTable64) (i : ℕ) (s : Result Forecast Refusal) → length es ≤ i → add_all chunk names s (drop i es) ≡ s
 unfolding add_all
 none_left names es i s h = rw drop_of_length-le refl
 
+-- the names are malformed
+pub returns-in_err-sums : goal.returns-in_err-sums
+returns-in_err-sums c =
+    let names = c.args.names.now in
+    let es = c.args.entries.now in
+    let p = err_from_is_err_and c.from_residual.result c.from_residual.ensures.1 in
+    let w = c.in_err-sums.was in
+    let q : forecast_of chunk es names ≡ Err c.in_err-sums.field-0.0 =
+    sym (sums_are chunk names es (omega arith)) ∙ rw (← c.start.ensures, w) (stays chunk names es _) in
+    tells forecast_told (p.1 ∙ ap Err p.2 ∙ sym q)
+
+-- an entry is refused
+pub returns-in_err-sums-2 : goal.returns-in_err-sums-2
+returns-in_err-sums-2 c =
+    let names = c.args.names.now in
+    let es = c.args.entries.now in
+    let i = c.loop-e.e-index in
+    let p = err_from_is_err_and c.from_residual-in_err-sums-2.result c.from_residual-in_err-sums-2.ensures.1 in
+    let e = c.in_err-sums-2.ensures in
+    let q : forecast_of chunk es names ≡ Err c.in_err-sums-2.field-0.0 =
+    sym (sums_are chunk names es (omega arith))
+    ∙ sym c.loop-e.invariant
+    ∙ sym (one_added names es i _ (Ok c.loop-e.sums) c.loop-e-test.true)
+    ∙ ap (λ (r : Result Forecast Refusal). add_all chunk names r (drop (i + 1) es)) (sym e)
+    ∙ stays chunk names (drop (i + 1) es) _ in
+    tells forecast_told (p.1 ∙ ap Err p.2 ∙ sym q)
+
 pub loop-e-preserved : goal.loop-e-preserved
-loop-e-preserved c = rw c.add-s.ensures (one_added _ _ c.loop-e.e-index _ c.loop-e.s c.loop-e-test.true ∙ c.loop-e.invariant)
+loop-e-preserved c =
+    let e = c.in_ok-sums-2.ensures in
+    rw e (one_added _ _ c.loop-e.e-index _ (Ok c.loop-e.sums) c.loop-e-test.true ∙ c.loop-e.invariant)
 
 pub returns : goal.returns
 returns c =
-    let a = c.args in
-    let names = a.names.now in
-    let es = a.entries.now in
-    let whole : c.loop-e.s ≡ add_all chunk names (start_of names) es =
-    sym (none_left names _ c.loop-e.e-index c.loop-e.s c.loop-e-test.false) ∙ c.loop-e.invariant in
-    tells forecast_told (c.finish.ensures ∙ ap foreseen_of whole ∙ sums_are chunk names es (omega arith))
+    let names = c.args.names.now in
+    let es = c.args.entries.now in
+    let whole : Ok c.loop-e.sums ≡ add_all chunk names (start_of names) es =
+    sym (none_left names _ c.loop-e.e-index (Ok c.loop-e.sums) c.loop-e-test.false) ∙ c.loop-e.invariant in
+    tells forecast_told (whole ∙ sums_are chunk names es (omega arith))
