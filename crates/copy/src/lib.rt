@@ -17,5 +17,8 @@ pub fn copy_into(d: &mut [u8], at: usize, s: &[u8], n: usize)
     if s.len() < n {
         return;
     }
-    d[at..at + n].copy_from_slice(&s[..n]);
+    // The library's copy calls memmove: the archive needs nothing but memcpy (README).
+    for j in 0..n {
+        d[at + j] = s[j];
+    }
 }
