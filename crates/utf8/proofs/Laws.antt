@@ -87,7 +87,7 @@ pub no_byte : (r : List ℕ) → None ≡ slice_get r 0 → r ≡ []
 no_byte [] e = refl
 no_byte (x ∷ xs) e = let z : ◌≡◌ {A = ℕ} 0 1 = cc in absurd (omega arith)
 
--- the same of a text that begins with the byte
+-- a text, by the class of the byte that it begins with
 pub goes_turn : (r : List ℕ) (b : ℕ) (x : Class) → r ≡ b ∷ drop 1 r → x ≡ lead_of b → utf8 r ≡ goes_by x (drop 1 r)
 goes_turn r b x h e = ap utf8 h ∙ rw e (by_lead b (drop 1 r))
 
