@@ -103,6 +103,7 @@ fn act(
 }
 
 // The packet is whole: its bytes, or the first 48 of them, stand in the window w.
+#[tactic(auto, unfolding(session::specs::PacketPhase::whole_of))]
 fn whole(
     s: Session,
     taken: usize,
@@ -122,6 +123,7 @@ fn whole(
 }
 
 // The header is whole, and size is its length field.
+#[tactic(auto, unfolding(session::specs::PacketPhase::sized_of))]
 fn body(
     s: Session,
     held: usize,
@@ -149,6 +151,7 @@ fn body(
 }
 
 // Bytes of a packet, up to its end.
+#[tactic(auto, unfolding(session::specs::PacketPhase::packet_of))]
 fn packet(
     s: Session,
     held: usize,
@@ -171,6 +174,7 @@ fn packet(
 }
 
 // A step of the packet phase, so many bytes of a packet being held: 3, then 18, then the packet's bytes.
+#[tactic(auto, unfolding(session::specs::Guard::packet_step, turn::specs::Turn::guard_of))]
 pub fn packet_step(
     s: Session,
     held: usize,
