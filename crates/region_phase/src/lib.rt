@@ -12,22 +12,22 @@ ghost use Rattle.session.specs.RegionPhase.{asked_of, asked_out, handed_of, coun
 ghost use Rattle.session.specs.Guard.{region_step};
 ghost use Rattle.region_phase.specs.Advance.{advanced, advance_within, advance_of};
 
-use build::{read_size, sahara_send_mem_read};
+use build::sahara_send_mem_read;
 use chunk::due_after;
 use entry::entry_at;
 use field::Width;
-use filename::{NameCheck, check_after_open};
+use filename::check_after_open;
 use limits::{past_memory, reads_limit, region_limit};
+use refusal::Refusal;
 use region_counts::{asks_for, hands_out, past_end, recount};
 use session::{Answer, Counted, Phase, Region, Session, Stepped};
 use turn::{moved, untouched};
 use verdict::Opening;
 
-// What a region's step comes to, by its counts: refused; bytes are outstanding and none came; other counts; the region is to be begun, its name judged;
-// it is to be closed.
+// What a region's step comes to by its counts, where it is not refused: bytes are outstanding and none came; other counts; the region is to be begun, its
+// name judged; it is to be closed.
 #[derive(Clone, Copy)]
 pub enum Advance {
-    Refused(Refusal),
     Waits,
     To(Counted),
     Begins,
@@ -42,13 +42,12 @@ fn ask(width: Width, opening: Opening, reads: u64, x: Region, out: &mut [u8]) ->
     ensures { (result ≡ asked_of width opening reads x) × (out.new ≡ asked_out width opening x out.old) }
 {
     let n = asks_for(opening, x);
-    sahara_send_mem_read(out, width, x.base + x.done, n);
-    let count = reads + 1;
+    let k = sahara_send_mem_read(out, width, x.base + x.done, n).unwrap();
     Counted {
         region: recount(x, x.done, n, false),
-        reads: count,
+        reads: reads + 1,
         taken: 0,
-        answer: Answer::Send(read_size(width)),
+        answer: Answer::Send(k),
     }
 }
 
@@ -79,10 +78,9 @@ fn advance_within(
 ) -> Advance
     requires { (48 ≤ length out.old) × (reads ≤ 2 ^ 63 + 1) × (x.done + x.outstanding ≤ x.len)
         × ((x.done ≡ 0 → ⊥) → x.base + x.len ≤ 256 ^ field_size width) }
-    ensures { advanced result out.new ≡ advance_within width opening reads x came out.old }
+    ensures { advanced (Ok result) out.new ≡ advance_within width opening reads x came out.old }
 {
-    let due = x.due;
-    if due {
+    if x.due {
         return Advance::To(Counted {
             region: recount(x, x.done, x.outstanding, false),
             reads,
@@ -115,19 +113,16 @@ pub fn advance_region(
     came: usize,
     table: &[u8],
     out: &mut [u8],
-) -> Advance
+) -> Result<Advance, Refusal>
     ensures { advanced result out.new ≡ advance_of width opening reads k x came table.now out.old }
 {
     if out.len() < 48 {
-        return Advance::Refused(Refusal::OutBuffer);
+        return Err(Refusal::OutBuffer);
     }
-    if reads_limit(reads) {
-        return Advance::Refused(Refusal::Limit);
+    if reads_limit(reads) || region_limit(width, k, x, table) {
+        return Err(Refusal::Limit);
     }
-    if region_limit(width, k, x, table) {
-        return Advance::Refused(Refusal::Limit);
-    }
-    advance_within(width, opening, reads, x, came, out)
+    Ok(advance_within(width, opening, reads, x, came, out))
 }
 
 // ---- put into a session
@@ -135,21 +130,14 @@ pub fn advance_region(
 fn counted_in(s: Session, k: usize, c: Counted) -> Stepped
     ensures { result ≡ counted_in s k c }
 {
-    let opening = s.opening;
-    let width = s.width;
-    let window = s.window;
-    let x = c.region;
-    let answer = c.answer;
     Stepped {
         session: Session {
-            opening,
             reads: c.reads,
-            width,
-            window,
-            phase: Phase::Region(k, x),
+            phase: Phase::Region(k, c.region),
+            ..s
         },
         taken: c.taken,
-        answer,
+        answer: c.answer,
     }
 }
 
@@ -168,8 +156,7 @@ fn close(s: Session, k: usize, x: Region) -> Stepped
     requires { x.entry + 1 < 2 ^ 64 }
     ensures { result ≡ closes s k x }
 {
-    let entry = x.entry;
-    moved(s, Phase::Between(k, entry + 1), 0, Answer::Close(entry))
+    moved(s, Phase::Between(k, x.entry + 1), 0, Answer::Close(x.entry))
 }
 
 // The step after open, by the entry's name, then its end: 21, then 22 or 24.
@@ -178,23 +165,17 @@ fn begin_region(s: Session, k: usize, x: Region, table: &[u8], out: &mut [u8]) -
     ensures { (y : List ℕ) → outcome result table.now y out.new
         ≡ begun_of s k x table.now y out.old (after_open_check (name_in s.width table.now x)) }
 {
-    let width = s.width;
-    let i = x.entry;
-    let at = entry_at(table, width, i);
-    let entry = at.entry;
-    let name = entry.filename;
-    let check = check_after_open(&name);
-    if let Err(why) = check {
+    let entry = entry_at(table, s.width, x.entry).unwrap();
+    if let Err(why) = check_after_open(&entry.filename) {
         return moved(s, Phase::Ended(0), 0, Answer::Refused(why));
     }
-    if past_memory(width, x.base, x.len) {
-        return moved(s, Phase::Ended(0), 0, Answer::Refused(past_end(width)));
+    if past_memory(s.width, x.base, x.len) {
+        return moved(s, Phase::Ended(0), 0, Answer::Refused(past_end(s.width)));
     }
     if x.len <= x.done {
         return close(s, k, x);
     }
-    let opening = s.opening;
-    let c = ask(width, opening, s.reads, x, out);
+    let c = ask(s.width, s.opening, s.reads, x, out);
     counted_in(s, k, c)
 }
 
@@ -211,14 +192,21 @@ pub fn region_step(
     ensures { Tells outcome_told (outcome result table.now reply.now out.new)
         (region_step s k x delivery.now table.now reply.now out.old) }
 {
-    let width = s.width;
-    let opening = s.opening;
-    let a = advance_region(width, opening, s.reads, k, x, delivery.len(), table, out);
+    let a = advance_region(
+        s.width,
+        s.opening,
+        s.reads,
+        k,
+        x,
+        delivery.len(),
+        table,
+        out,
+    );
     match a {
-        Advance::Refused(why) => untouched(s, why),
-        Advance::Waits => waits(s),
-        Advance::To(c) => counted_in(s, k, c),
-        Advance::Begins => begin_region(s, k, x, table, out),
-        Advance::Closes => close(s, k, x),
+        Ok(Advance::Waits) => waits(s),
+        Ok(Advance::To(c)) => counted_in(s, k, c),
+        Ok(Advance::Begins) => begin_region(s, k, x, table, out),
+        Ok(Advance::Closes) => close(s, k, x),
+        Err(why) => untouched(s, why),
     }
 }
