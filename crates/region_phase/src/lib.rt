@@ -37,6 +37,7 @@ pub enum Advance {
 // ---- over the counts
 
 // No bytes are outstanding and some are left: the next memory read.
+#[tactic(auto, using(build::proofs::Laws::build_long))]
 fn ask(width: Width, opening: Opening, reads: u64, x: Region, out: &mut [u8]) -> Counted
     requires { (48 ≤ length out.old) × (x.done < x.len) × (x.base + x.len ≤ 256 ^ field_size width) × (reads ≤ 2 ^ 63 + 1) }
     ensures { (result ≡ asked_of width opening reads x) × (out.new ≡ asked_out width opening x out.old) }
@@ -68,6 +69,7 @@ fn hand_out(opening: Opening, reads: u64, x: Region, came: usize) -> Counted
 }
 
 // With every count within its limit: the empty read that is due, a chunk asked for, or one handed out.
+#[tactic(auto, unfolding(crate::specs::Advance::advance_within))]
 fn advance_within(
     width: Width,
     opening: Opening,
@@ -104,6 +106,7 @@ fn advance_within(
 }
 
 // A region's step over its counts: k is the table's length, x the region, and so many bytes came.
+#[tactic(auto, unfolding(crate::specs::Advance::advance_of))]
 pub fn advance_region(
     width: Width,
     opening: Opening,
@@ -160,6 +163,11 @@ fn close(s: Session, k: usize, x: Region) -> Stepped
 }
 
 // The step after open, by the entry's name, then its end: 21, then 22 or 24.
+#[tactic(
+    auto,
+    using(entry::proofs::Laws::entry_there),
+    unfolding(session::specs::RegionPhase::next_chunk)
+)]
 fn begin_region(s: Session, k: usize, x: Region, table: &[u8], out: &mut [u8]) -> Stepped
     requires { (48 ≤ length out.old) × (there (field_size s.width) table.now x.entry ≡ true) × (s.reads ≤ 2 ^ 63 + 1) }
     ensures { (y : List ℕ) → outcome result table.now y out.new
@@ -180,6 +188,15 @@ fn begin_region(s: Session, k: usize, x: Region, table: &[u8], out: &mut [u8]) -
 }
 
 // A step in a region: k is the table's length, x the region.
+#[tactic(
+    auto,
+    unfolding(
+        session::specs::Guard::region_step,
+        session::specs::RegionPhase::region_of,
+        session::specs::RegionPhase::ask_of,
+        session::specs::RegionPhase::hand_of
+    )
+)]
 pub fn region_step(
     s: Session,
     k: usize,
@@ -192,21 +209,15 @@ pub fn region_step(
     ensures { Tells outcome_told (outcome result table.now reply.now out.new)
         (region_step s k x delivery.now table.now reply.now out.old) }
 {
-    let a = advance_region(
-        s.width,
-        s.opening,
-        s.reads,
-        k,
-        x,
-        delivery.len(),
-        table,
-        out,
-    );
+    let came = delivery.len();
+    let a = match advance_region(s.width, s.opening, s.reads, k, x, came, table, out) {
+        Ok(a) => a,
+        Err(why) => return untouched(s, why),
+    };
     match a {
-        Ok(Advance::Waits) => waits(s),
-        Ok(Advance::To(c)) => counted_in(s, k, c),
-        Ok(Advance::Begins) => begin_region(s, k, x, table, out),
-        Ok(Advance::Closes) => close(s, k, x),
-        Err(why) => untouched(s, why),
+        Advance::Waits => waits(s),
+        Advance::To(c) => counted_in(s, k, c),
+        Advance::Begins => begin_region(s, k, x, table, out),
+        Advance::Closes => close(s, k, x),
     }
 }
