@@ -5,8 +5,8 @@ use entry::{RamdumpTable64, entry_at};
 use field::Width;
 use forecast::{forecast_of, forecast_table};
 use forecast_sums::Foreseen;
-use std::io;
 use std::io::Write;
+use std::{array, io};
 
 fn foreseen<W: Write>(to: &mut W, f: Foreseen) -> io::Result<()> {
     match f {
@@ -26,14 +26,7 @@ pub(crate) fn of_table<W: Write>(to: &mut W, line: Line<'_>) -> io::Result<()> {
 
 // The first eight entries of a table; one that it does not have is zeros.
 fn eight(table: &[u8], width: Width) -> [RamdumpTable64; 8] {
-    let missing = entry::no_entry();
-    let none = missing.entry;
-    let mut entries = [none; 8];
-    for i in 0..8 {
-        let found = entry_at(table, width, i);
-        entries[i] = found.entry;
-    }
-    entries
+    array::from_fn(|i| entry_at(table, width, i).entry)
 }
 
 // g WIDTH TABLE NAMES N: of the first N of eight entries, lent as a list.
