@@ -97,7 +97,7 @@ fn opened_by(words: &[u8]) -> Session {
 }
 
 fn long(s: &[u8], at: usize) -> u64 {
-    field::padded(s, at)
+    field::u64_padded(s, at)
 }
 
 // The first 48 bytes, with zeros behind fewer.

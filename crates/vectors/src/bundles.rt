@@ -28,10 +28,10 @@ pub(crate) fn names<W: Write>(to: &mut W, line: Line<'_>) -> io::Result<()> {
     checked(to, check_names(&names))
 }
 
-fn ranged<W: Write>(to: &mut W, x: ImageRange) -> io::Result<()> {
+fn ranged<W: Write>(to: &mut W, x: Result<(usize, usize), Refusal>) -> io::Result<()> {
     match x {
-        ImageRange::At(start, len) => write!(to, "at {start} {len}"),
-        ImageRange::Refused(k) => show::refused(to, k),
+        Ok((start, len)) => write!(to, "at {start} {len}"),
+        Err(k) => show::refused(to, k),
     }
 }
 
@@ -42,10 +42,10 @@ pub(crate) fn range<W: Write>(to: &mut W, line: Line<'_>) -> io::Result<()> {
     ranged(to, image_range(&set, id, line.long(3), line.long(4)))
 }
 
-fn tidied<W: Write>(to: &mut W, t: Tidied) -> io::Result<()> {
+fn tidied<W: Write>(to: &mut W, t: Result<usize, Refusal>) -> io::Result<()> {
     match t {
-        Tidied::Made(k) => write!(to, "{k}"),
-        Tidied::Refused(why) => show::refused(to, why),
+        Ok(k) => write!(to, "{k}"),
+        Err(why) => show::refused(to, why),
     }
 }
 

@@ -56,7 +56,7 @@ fn hello<W: Write>(
     mode: SaharaMode,
     unk: Unk,
 ) -> io::Result<()> {
-    let mode = mode_number(mode);
+    let mode = u32::from(mode);
     write!(
         to,
         " {first:x} {second:x} {third:x} {mode:x}{}",
@@ -78,9 +78,9 @@ fn fields<W: Write>(to: &mut W, body: SaharaPacketBody) -> io::Result<()> {
         SaharaPacketBody::ReadMemReq(r) => write!(to, " {:x} {:x}", r.addr, r.len),
         SaharaPacketBody::CommandReady => Ok(()),
         SaharaPacketBody::ExecResp(e) => {
-            write!(to, " {:x} {:x}", command_number(e.command), e.len)
+            write!(to, " {:x} {:x}", u32::from(e.command), e.len)
         }
-        SaharaPacketBody::ExecData(e) => write!(to, " {:x}", command_number(e.command)),
+        SaharaPacketBody::ExecData(e) => write!(to, " {:x}", u32::from(e.command)),
         SaharaPacketBody::Debug64Req(d) => write!(to, " {:x} {:x}", d.addr, d.len),
         SaharaPacketBody::ReadMem64Req(r) => write!(to, " {:x} {:x}", r.addr, r.len),
         SaharaPacketBody::ReadData64Req(r) => {
@@ -90,15 +90,15 @@ fn fields<W: Write>(to: &mut W, body: SaharaPacketBody) -> io::Result<()> {
 }
 
 fn packet<W: Write>(to: &mut W, p: SaharaPacket) -> io::Result<()> {
-    let kind = kind_number(kind_of(p.body));
+    let kind = u32::from(kind_of(p.body));
     write!(to, "packet {kind:x} {:x}", p.len)?;
     fields(to, p.body)
 }
 
-fn decoded<W: Write>(to: &mut W, d: Decoded) -> io::Result<()> {
+fn decoded<W: Write>(to: &mut W, d: Result<SaharaPacket, Refusal>) -> io::Result<()> {
     match d {
-        Decoded::Is(p) => packet(to, p),
-        Decoded::Refused(k) => show::refused(to, k),
+        Ok(p) => packet(to, p),
+        Err(k) => show::refused(to, k),
     }
 }
 
@@ -108,10 +108,10 @@ pub(crate) fn decode<W: Write>(to: &mut W, line: Line<'_>) -> io::Result<()> {
     decoded(to, sahara_parse_packet(&bytes))
 }
 
-fn length_check<W: Write>(to: &mut W, c: LengthCheck) -> io::Result<()> {
+fn length_check<W: Write>(to: &mut W, c: Result<(), Refusal>) -> io::Result<()> {
     match c {
-        LengthCheck::Good => show::good(to),
-        LengthCheck::Refused(k) => show::refused(to, k),
+        Ok(()) => show::good(to),
+        Err(k) => show::refused(to, k),
     }
 }
 
@@ -120,24 +120,24 @@ pub(crate) fn length<W: Write>(to: &mut W, line: Line<'_>) -> io::Result<()> {
     length_check(to, sahara_read_packet_length(line.number(1)))
 }
 
-fn built<W: Write>(to: &mut W, b: Built) -> io::Result<()> {
+fn built<W: Write>(to: &mut W, b: Result<usize, Refusal>) -> io::Result<()> {
     match b {
-        Built::Send(k) => write!(to, "send {k}"),
-        Built::Refused(k) => show::refused(to, k),
+        Ok(k) => write!(to, "send {k}"),
+        Err(k) => show::refused(to, k),
     }
 }
 
 fn mode_at(line: Line<'_>, k: usize) -> Option<SaharaMode> {
-    match mode_of(line.number(k)) {
-        ModeOf::Is(m) => Some(m),
-        ModeOf::Bad => None,
+    match SaharaMode::try_from(line.number(k)) {
+        Ok(m) => Some(m),
+        Err(_) => None,
     }
 }
 
 fn command_at(line: Line<'_>, k: usize) -> Option<SaharaCmdModeCmd> {
-    match command_of(line.number(k)) {
-        CommandOf::Is(c) => Some(c),
-        CommandOf::Bad => None,
+    match SaharaCmdModeCmd::try_from(line.number(k)) {
+        Ok(c) => Some(c),
+        Err(_) => None,
     }
 }
 

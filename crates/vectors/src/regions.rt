@@ -83,10 +83,10 @@ pub(crate) fn next<W: Write>(to: &mut W, line: Line<'_>) -> io::Result<()> {
     write!(to, "{next}")
 }
 
-fn sheeted<W: Write>(to: &mut W, x: Sheet) -> io::Result<()> {
+fn sheeted<W: Write>(to: &mut W, x: Result<usize, Refusal>) -> io::Result<()> {
     match x {
-        Sheet::Made(k) => write!(to, "{k}"),
-        Sheet::Refused(why) => show::refused(to, why),
+        Ok(k) => write!(to, "{k}"),
+        Err(why) => show::refused(to, why),
     }
 }
 

@@ -22,7 +22,7 @@ pub(crate) fn good<W: Write>(to: &mut W) -> io::Result<()> {
     write!(to, "good")
 }
 
-pub(crate) fn refused<W: Write>(to: &mut W, why: u8) -> io::Result<()> {
+pub(crate) fn refused<W: Write>(to: &mut W, why: Refusal) -> io::Result<()> {
     write!(to, "refused {why}")
 }
 
