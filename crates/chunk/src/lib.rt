@@ -18,12 +18,5 @@ pub fn chunk_size(opening: Opening) -> usize
 pub fn due_after(opening: Opening, outstanding: u64, done: u64) -> bool
     ensures { result ≡ due_after opening outstanding done }
 {
-    let backend = opening.backend;
-    let QdlBackend::Usb = backend else {
-        return false;
-    };
-    if outstanding == 0 {
-        return done % 512 == 0;
-    }
-    false
+    opening.backend == QdlBackend::Usb && outstanding == 0 && done % 512 == 0
 }

@@ -2,14 +2,14 @@
 -- give the
 -- same. By the laws of related machines. Assumes nothing.
 use mathlib.Core.Path.{◌≡◌, refl, sym, ap, ◌∙◌}
-use mathlib.Core.Logic.{◌⊎◌, inl, inr, ⊎_elim}
+use mathlib.Core.Logic.{inl, inr, ⊎_elim}
 use mathlib.Core.Bool.{Bool, true, false, not, ◌&&◌, ◌||◌}
 use mathlib.Core.List.{List, [], ◌∷◌, ◌++◌, map, append-nil}
-use Prim.Native.Nat.{ℕ, ◌+◌, ◌≤◌, ◌<◌}
+use Prim.Native.Nat.{ℕ, ◌+◌, ◌<◌}
 use native.Mathlib.Omega.{arith}
 use borrow.Author.Tests.{eqb-false, ne_eqb}
-use lib.Dec.{eqb, T}
-use lib.ListN.{length, take, length-take}
+use lib.Dec.{eqb}
+use lib.ListN.{length, length-take}
 use Rattle.base.proofs.Ranges.{by_test}
 use Rattle.base.proofs.Tests.{holds}
 use Rattle.verdict.specs.declared.Opening.{Opening}
@@ -18,14 +18,14 @@ use Rattle.session.specs.declared.Answer.TheVariants as A
 use Rattle.session.specs.declared.Phase.{Phase}
 use Rattle.session.specs.declared.Session.{Session}
 use Rattle.waiting.specs.Wanted.{needs_bytes}
-use Rattle.steps.specs.Steps.{one, final, Throughout, outs, counted}
+use Rattle.steps.specs.Steps.{one, final, Throughout}
 use Rattle.steps.proofs.Steps.{outs_related, counted_related, fair_related, final_related}
 use Rattle.fetch.specs.Plain.{Report, Setting}
-use Rattle.fetch.specs.Device.{Host, Delivery, first, another, Lent, lent, delivered, all_own, aside, Delivered, reports_for, World, start, made, reported, Fair}
+use Rattle.fetch.specs.Device.{Host, Delivery, first, another, Lent, lent, delivered, all_own, aside, Delivered, reports_for, World, start, made, Fair}
 use Rattle.fetch.proofs.Simulation.{Alike, Both, both_start, both_made, both_after}
 use Rattle.division.proofs.Undivided.{or_some}
 use Rattle.division.specs.Over.{Event, does, refuses, refusals_for, events_for, FromQueue, lacks, next_over, FairOver, RunOver, events_by, events, is_fed, owns_fed}
-use Rattle.division.specs.Claim.{enough_over, undivided, packet_ended, unwindowed, SameEnd, Divided, Division, Matched, AnyTwo, reports_over, owns_over, DividedFairly, FairDivision}
+use Rattle.division.specs.Claim.{undivided, packet_ended, unwindowed, Division, AnyTwo, reports_over, owns_over, FairDivision}
 
 -- ---- two divisions
 

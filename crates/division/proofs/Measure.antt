@@ -2,14 +2,13 @@
 -- bytes
 -- that led to it, eight for a step. Each step that waits for nothing makes it less. Assumes nothing.
 use mathlib.Core.Path.{◌≡◌, refl, sym, ap, subst, ◌∙◌}
-use mathlib.Core.Logic.{◌⊎◌, inl, inr, ⊎_elim}
-use mathlib.Core.Bool.{Bool, true, false, not, ◌||◌, ◌&&◌}
-use mathlib.Core.List.{List, [], ◌∷◌, ◌++◌}
-use Prim.Native.Nat.{ℕ, zero, suc, ◌+◌, ◌-◌, ◌*◌, ◌/◌, ◌%◌, ◌^◌, ◌≤◌, ◌<◌, min}
+use mathlib.Core.Bool.{Bool, true, false, ◌&&◌}
+use mathlib.Core.List.{List}
+use Prim.Native.Nat.{ℕ, suc, ◌+◌, ◌-◌, ◌*◌, ◌/◌, ◌%◌, ◌^◌, ◌≤◌, ◌<◌, min}
 use native.Mathlib.Omega.{arith}
 use borrow.Author.Tests.{lt-ltb, ltb-true, ltb-false, leb-false, eqb-true, eqb-false, ne_eqb}
 use lib.Dec.{ltb, leb, eqb}
-use lib.ListN.{length, take, drop, length-drop, length-take, take-append-drop}
+use lib.ListN.{length, take, drop, length-take, take-append-drop}
 use lib.Seq.{length-take-le}
 use Rattle.base.specs.Choice.{pick}
 use Rattle.base.proofs.Ranges.{by_test}
@@ -32,12 +31,12 @@ use Rattle.session.specs.declared.Phase.{Phase}
 use Rattle.session.specs.declared.Phase.TheVariants as P
 use Rattle.session.specs.declared.Session.{Session}
 use Rattle.session.specs.declared.Stepped.{Stepped}
-use Rattle.session.specs.Outcome.{Outcome, outcome, gives, is_ended}
+use Rattle.session.specs.Outcome.{Outcome, outcome, is_ended}
 use Rattle.session.specs.PacketPhase.{keep, acted, whole_of, sized_of, packet_of}
 use Rattle.session.specs.FillingPhase.{response_of, switched_of, table_of}
 use Rattle.session.specs.BetweenPhase.{open_of, between_of}
-use Rattle.session.specs.RegionPhase.{name_in, due_after, asks_for, next_chunk, begun_of, ask_of, hand_of, region_of}
-use Rattle.session.specs.Limits.{held_limit, filling_limit, phase_limit}
+use Rattle.session.specs.RegionPhase.{name_in, asks_for, next_chunk, begun_of, ask_of, hand_of, region_of}
+use Rattle.session.specs.Limits.{held_limit, phase_limit}
 use Rattle.session.specs.Step.{on_phase}
 use Rattle.session.proofs.Window.{keep_length}
 use Rattle.steps.specs.Steps.{one}

@@ -1,6 +1,6 @@
 -- The law at one step, of the phases that fill a buffer and of a region: by whether d is short of what the phase takes. Assumes nothing.
 use mathlib.Core.Path.{◌≡◌, refl, sym, ap, subst, ◌∙◌}
-use mathlib.Core.Bool.{Bool, true, false}
+use mathlib.Core.Bool.{true, false}
 use mathlib.Core.List.{List, [], ◌∷◌, ◌++◌, map}
 use Prim.Native.Nat.{ℕ, ◌+◌, ◌-◌, ◌≤◌, ◌<◌, min}
 use native.Mathlib.Omega.{arith}
@@ -26,7 +26,7 @@ use Rattle.waiting.specs.Waiting.{InOrder}
 use Rattle.waiting.specs.Wanted.{region_waits}
 use Rattle.fetch.specs.Plain.{byte}
 use Rattle.division.specs.Over.{Event, does}
-use Rattle.division.specs.Law.{Joined, Divides, alone, joined}
+use Rattle.division.specs.Law.{Divides, alone, joined}
 use Rattle.division.proofs.Window.{paste_paste}
 
 -- bytes handed out in two parts show what they show at once

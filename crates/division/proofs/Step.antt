@@ -2,9 +2,9 @@
 -- goes by the phase. Assumes nothing.
 use mathlib.Core.Path.{◌≡◌, refl, sym, ap, subst, ◌∙◌}
 use mathlib.Core.Logic.{◌⊎◌, inl, inr, ⊎_elim}
-use mathlib.Core.Bool.{Bool, true, false, not, ◌&&◌}
+use mathlib.Core.Bool.{true, false, not, ◌&&◌}
 use mathlib.Core.List.{List, [], ◌∷◌, ◌++◌, append-nil}
-use Prim.Native.Nat.{ℕ, ◌+◌, ◌≤◌, ◌<◌}
+use Prim.Native.Nat.{ℕ, ◌<◌}
 use native.Mathlib.Omega.{arith}
 use borrow.Author.Tests.{ltb-false, eqb-true, eqb-false, not-false}
 use lib.Dec.{ltb, eqb}
@@ -17,22 +17,23 @@ use Rattle.session.specs.declared.Phase.{Phase}
 use Rattle.session.specs.declared.Phase.TheVariants as P
 use Rattle.session.specs.declared.Session.{Session}
 use Rattle.session.specs.declared.Answer.TheVariants as A
-use Rattle.session.specs.Outcome.{Outcome, outcome, gives, untouched, is_ended}
+use Rattle.session.specs.Outcome.{Outcome, untouched, is_ended}
 use Rattle.session.specs.FillingPhase.{switched_of}
 use Rattle.session.specs.Limits.{phase_limit, limit_of}
 use Rattle.session.specs.Step.{on_phase, step_of}
 use Rattle.waiting.specs.Waiting.{InOrder}
 use Rattle.waiting.specs.Wanted.{needs_bytes}
 use Rattle.waiting.proofs.Waiting.{waits, step_is_phase, phase_within}
+use Rattle.refusal.specs.declared.Refusal.{Refusal}
 use Rattle.fetch.specs.Device.{aside}
 use Rattle.division.specs.Law.{Joined, Divides, alone, joined, step_after, StepLaw}
-use Rattle.division.proofs.Phases.{again, Law, response_law, table_law, region_law}
+use Rattle.division.proofs.Phases.{Law, response_law, table_law, region_law}
 use Rattle.division.proofs.Packet.{packet_law}
 
 -- ---- refused whatever is delivered, or its phase's
 
 pub record Refuses (s : Session) (set names t y o : List ℕ) : Type 0 where
-  pub why : ℕ
+  pub why : Refusal
   pub quiet : aside (A.Refused why) ≡ true
   pub stays : (d : List ℕ) → step_of s d set names t y o ≡ untouched s why t y o
 
@@ -43,15 +44,15 @@ pub record Goes (s : Session) (set names t y o : List ℕ) : Type 0 where
 pub refuses_or_goes : (s : Session) (set names t y o : List ℕ) → Refuses s set names t y o ⊎ Goes s set names t y o
 unfolding step_of
 refuses_or_goes s set names t y o =
-    by_test (not (well_formed true set)) (λ a. inl (record { why = 1; quiet = refl; stays = λ d. rw a refl }))
+    by_test (not (well_formed true set)) (λ a. inl (record { why = Refusal.ImageSet; quiet = refl; stays = λ d. rw a refl }))
     (λ a.
-    by_test (not (well_formed false names)) (λ b. inl (record { why = 2; quiet = refl; stays = λ d. rw (a, b) refl }))
+    by_test (not (well_formed false names)) (λ b. inl (record { why = Refusal.NameList; quiet = refl; stays = λ d. rw (a, b) refl }))
     (λ b.
-    by_test (ltb (length o) 48) (λ e. inl (record { why = 3; quiet = refl; stays = λ d. rw (a, b, e) refl }))
+    by_test (ltb (length o) 48) (λ e. inl (record { why = Refusal.OutBuffer; quiet = refl; stays = λ d. rw (a, b, e) refl }))
     (λ e.
-    by_test (is_ended s.phase) (λ f. inl (record { why = 4; quiet = refl; stays = λ d. rw (a, b, e, f) refl }))
+    by_test (is_ended s.phase) (λ f. inl (record { why = Refusal.Ended; quiet = refl; stays = λ d. rw (a, b, e, f) refl }))
     (λ f.
-    by_test (limit_of s t y) (λ g. inl (record { why = 18; quiet = refl; stays = λ d. rw (a, b, e, f, g) refl }))
+    by_test (limit_of s t y) (λ g. inl (record { why = Refusal.Limit; quiet = refl; stays = λ d. rw (a, b, e, f, g) refl }))
     (λ g.
     inr
     (record {

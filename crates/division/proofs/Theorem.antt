@@ -2,10 +2,10 @@
 -- proofs/Undivided, a
 -- refused one leaves the world as it was, and the rest are laws of lists of steps. Assumes nothing.
 use mathlib.Core.Path.{◌≡◌, refl, sym, ap, ◌∙◌}
-use mathlib.Core.Logic.{◌⊎◌, inl, inr, ⊎_elim}
+use mathlib.Core.Logic.{◌⊎◌, inl, ⊎_elim}
 use mathlib.Core.Bool.{Bool, true, false, not, ◌&&◌, ◌||◌}
 use mathlib.Core.List.{List, [], ◌∷◌, ◌++◌}
-use Prim.Native.Nat.{ℕ, zero, suc, ◌+◌, ◌-◌, ◌≤◌, ◌<◌}
+use Prim.Native.Nat.{ℕ, zero, suc, ◌-◌, ◌≤◌}
 use native.Mathlib.Omega.{arith}
 use borrow.Author.Tests.{eqb-true, eqb-false, ne_eqb, not-false}
 use lib.Dec.{eqb, T}
@@ -16,20 +16,19 @@ use Rattle.base.proofs.Tests.{and_true, neither, differ, holds, held}
 use Rattle.session.specs.declared.Session.{Session}
 use Rattle.session.specs.declared.Answer.TheVariants as A
 use Rattle.session.specs.Outcome.{Outcome, is_ended}
-use Rattle.session.specs.Step.{step_of}
 use Rattle.waiting.specs.Wanted.{needs_bytes}
 use Rattle.waiting.proofs.Waiting.{waits, step_is_phase}
-use Rattle.steps.specs.Steps.{one, final, Throughout, counted}
+use Rattle.steps.specs.Steps.{one, final, counted}
 use Rattle.steps.proofs.Steps.{beginning, whole}
 use Rattle.fetch.specs.Plain.{Setting}
-use Rattle.fetch.specs.Device.{definitions, Delivery, first, another, Lent, lent, delivered, all_own, kept, left, aside, World, start, made}
-use Rattle.fetch.proofs.Lent.{kept_lent, left_none, lent_own, kept_own, Owned, owned}
+use Rattle.fetch.specs.Device.{definitions, Delivery, first, another, Lent, lent, delivered, all_own, aside, World, start, made}
+use Rattle.fetch.proofs.Lent.{kept_lent, left_none, lent_own, kept_own, owned}
 use Rattle.fetch.proofs.Still.{phase_quiet, step_still}
 use Rattle.division.specs.Over.{Event, FromQueue, lacks, next_over, FairOver, RunOver, events_by, events, is_fed, owns_fed}
 use Rattle.division.specs.Claim.{enough_over, whole_left, undivided, packet_ends, packet_ended, unwindowed, SameEnd, Divided}
 use Rattle.division.specs.Law.{events_of}
 use Rattle.division.proofs.Step.{Goes, refuses_or_goes, empty_list}
-use Rattle.division.proofs.Undivided.{Marked, flat, step_on, after, forth, shown, arrives, stays, onward, RefusesIn, refuses_forth, or_none, Good, Fed, fine_forth, rest, end_of, due}
+use Rattle.division.proofs.Undivided.{Marked, flat, step_on, after, forth, shown, arrives, stays, RefusesIn, refuses_forth, or_none, Good, Fed, fine_forth, rest, end_of, due}
 
 or_assoc : (a b c : Bool) → ((a || b) || c) ≡ (a || (b || c))
 or_assoc true b c = refl

@@ -8,7 +8,7 @@ use native.Mathlib.Omega.{arith}
 use borrow.Author.Tests.{ltb-true, ltb-false}
 use lib.Dec.{ltb}
 use lib.ListN.{length, take, drop, length-append, length-take, length-drop, drop_of_length-le}
-use lib.Seq.{take_all, take_at, drop_at, take-take, drop-drop, take-append-le, take-length, take-append-add, paste, take-paste, drop-paste}
+use lib.Seq.{take_all, take_at, drop_at, drop-drop, take-append-le, take-length, take-append-add, paste, take-paste, drop-paste}
 use Rattle.base.proofs.Ranges.{by_test}
 use Rattle.session.specs.PacketPhase.{keep}
 use Rattle.session.proofs.Window.{keep_length}

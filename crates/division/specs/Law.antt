@@ -1,7 +1,7 @@
 -- The law at one step: of every session, opened or made up, and whatever it is lent. Lent d and then e, either d was enough and e is not looked at, or d is
 -- taken
 -- whole and the two steps come to what one step lent both comes to. It is `step_law` of proofs/Step.antt.
-use Rattle.std.specs.Prelude.{ℕ, ◌+◌, ◌≡◌, Bool, false, List, ◌++◌, length}
+use Rattle.std.specs.Prelude.{ℕ, ◌+◌, ◌≡◌, false, List, ◌++◌, length}
 use Rattle.session.specs.declared.Phase.{Phase}
 use Rattle.session.specs.declared.Session.{Session}
 use Rattle.session.specs.Outcome.{Outcome, is_ended}

@@ -8,16 +8,17 @@ use Rattle.session.specs.declared.Phase.{Phase}
 use Rattle.session.specs.declared.Session.{Session}
 use Rattle.session.specs.declared.Answer.{Answer}
 use Rattle.session.specs.declared.Answer.TheVariants as A
+use Rattle.refusal.specs.declared.Refusal.{Refusal}
 use Rattle.waiting.specs.Wanted.{needs_bytes}
 use Rattle.steps.specs.Steps.{Throughout, outs, counted}
 use Rattle.fetch.specs.Plain.{Report, Setting}
 use Rattle.fetch.specs.Device.{Host, Delivery, first, another, Lent, lent, delivered, all_own, left, reports_for, aside, World, world_after, made}
 
--- ---- what a step shows: its reports, as in demand 3, and beside them the number of a refusal that ends the session
+-- ---- what a step shows: its reports, as in demand 3, and beside them a refusal that ends the session
 
 pub data Event : Type 0 where
   does : Report → Event
-  refuses : ℕ → Event
+  refuses : Refusal → Event
 
 -- 1, 2, 3, 4 and 18 end nothing, and show nothing
 abbrev pub refusals_for : Answer → List Event

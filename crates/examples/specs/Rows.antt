@@ -13,7 +13,7 @@ use Rattle.packet.specs.Packet.{length_checked}
 use Rattle.image.specs.Image.{range_of}
 use Rattle.tidied.specs.Tidy.{tidy_of}
 use Rattle.selection.specs.Selection.{same, selected}
-use Rattle.verdict.specs.Verdict.{verdict_of}
+use Rattle.verdict.specs.Verdict.{finish_number, verdict_of}
 use Rattle.verdict.specs.declared.QdlBackend.TheVariants as U
 use Rattle.verdict.specs.declared.Opening.{Opening}
 use Rattle.verdict.specs.declared.Verdict.{Verdict}
@@ -26,6 +26,7 @@ use Rattle.session.specs.declared.Answer.TheVariants as A
 use Rattle.session.specs.Outcome.{opened_with, in_phase, of_width, filling, region, Outcome}
 use Rattle.session.specs.FillingPhase.{response_of}
 use Rattle.session.specs.Step.{step_of}
+use Rattle.refusal.specs.Refusal.{refusal_number}
 use Rattle.refusal.specs.declared.Refusal.{Refusal}
 
 -- what an example says: accepted, refused with a number, finished with a number, bytes of a set, a stem that matches or not, a packet sent, a region opened or
@@ -60,20 +61,20 @@ numbers reads_empty = 9 ∷ []
 
 abbrev pub of_length : Result Unit Refusal → Says
 of_length (Ok tt) = ok
-of_length (Err why) = refused why
+of_length (Err why) = refused (refusal_number why)
 
 abbrev pub of_verdict : Result Verdict Refusal → Says
 of_verdict (Ok (W.Reply q)) = sends (bytes_of q)
 of_verdict (Ok (W.Image x k)) = given x k
 of_verdict (Ok W.Pass) = ok
-of_verdict (Ok (W.Finish how)) = finish how
+of_verdict (Ok (W.Finish how)) = finish (finish_number how)
 of_verdict (Ok (W.Respond c k)) = ok
 of_verdict (Ok (W.Debug v a k)) = sends (bytes_of (Q.MemRead v a k))
-of_verdict (Err why) = refused why
+of_verdict (Err why) = refused (refusal_number why)
 
 abbrev pub of_range : Result (ℕ × ℕ) Refusal → Says
 of_range (Ok (x, k)) = given x k
-of_range (Err why) = refused why
+of_range (Err why) = refused (refusal_number why)
 
 -- a step's answer, by the out buffer that it leaves
 abbrev pub of_answer : Answer → List ℕ → Says
@@ -84,8 +85,8 @@ of_answer (A.Open i) o = opens_region i
 of_answer (A.Bytes k) o = hands_out k
 of_answer A.EmptyRead o = reads_empty
 of_answer (A.Close i) o = closes_region i
-of_answer (A.Finished how r) o = finish how
-of_answer (A.Refused why) o = refused why
+of_answer (A.Finished how r) o = finish (finish_number how)
+of_answer (A.Refused why) o = refused (refusal_number why)
 
 -- ---- the inputs
 

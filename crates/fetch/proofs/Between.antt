@@ -30,7 +30,6 @@ use Rattle.fetch.proofs.Chunk.{most_reads, reads_more, reads_within, chunk_good,
 use Rattle.fetch.proofs.Ghost.{Ghost}
 use Rattle.fetch.proofs.Device.{no_bytes}
 use Rattle.fetch.proofs.Invariant.{table_at, to_come, GoodBetween, due_between, bound_between, Kept, via, in_region, bound_in, cost}
-use Rattle.std.specs.Prelude.{Ok}
 use Rattle.refusal.specs.Refusal.{accepted}
 use Rattle.verdict.specs.declared.Finish.TheVariants as Finish
 
@@ -126,7 +125,7 @@ module _ (v : Width) (u : Opening) where
     unfolding regions
     regions_cons t i is r = refl
 
-    regions_end : (t : List ℕ) (r : ℕ) → regions v u mem t [] r ≡ finished 3 r ∷ []
+    regions_end : (t : List ℕ) (r : ℕ) → regions v u mem t [] r ≡ finished Finish.Dumped r ∷ []
     unfolding regions
     regions_end t r = refl
 

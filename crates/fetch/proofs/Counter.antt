@@ -46,8 +46,7 @@ use Rattle.fetch.proofs.Sent.{asks, asks_read, many_append, reads_bytes}
 use Rattle.fetch.proofs.Verdict.{Sane, sane}
 use Rattle.std.specs.Prelude.{Result, Ok, Err}
 use Rattle.refusal.specs.declared.Refusal.{Refusal}
-use Rattle.refusal.specs.declared.Refusal.TheVariants as Refusal
-use Rattle.refusal.specs.Refusal.{accepted}
+use Rattle.verdict.specs.declared.Finish.{Finish}
 
 -- ---- what a list of reports tells, k memory reads having been sent before it: an end carries those sent before it, and comes last
 
@@ -111,7 +110,7 @@ no_end : (l : List ℕ) → has_end (map byte l) ≡ false
 no_end [] = refl
 no_end (b ∷ l) = no_end l
 
-told_end : (l m : List Report) (k how r : ℕ) → Tally k (l ++ (finished how r ∷ m)) → (r ≡ k + reads_in l) × (m ≡ [])
+told_end : (l m : List Report) (k : ℕ) (how : Finish) (r : ℕ) → Tally k (l ++ (finished how r ∷ m)) → (r ≡ k + reads_in l) × (m ≡ [])
 unfolding how_many
 told_end [] m k how r f = (f.0.0 ∙ sym (add-zero k), f.0.1)
 told_end (x ∷ l) m k how r f =
@@ -159,7 +158,7 @@ module _ (s : Session) (d set : List ℕ) where
       record { reads = rw (h, f) (e ∙ omega arith); told = rw h (g, tt); calm = k; ends = rw (h, i) (λ f. differ f) }
 
   -- the end
-  ends_here : (how : ℕ) (z : Session) (n : ℕ) (t y o : List ℕ) → z.reads ≡ s.reads → is_ended z.phase ≡ true → Calm z
+  ends_here : (how : Finish) (z : Session) (n : ℕ) (t y o : List ℕ) → z.reads ≡ s.reads → is_ended z.phase ≡ true → Calm z
       → Counts (outcome (gives z n (A.Finished how s.reads)) t y o)
   unfolding how_many
   ends_here how z n t y o e f k = record { reads = e ∙ omega arith; told = ((refl, refl), tt); calm = k; ends = λ i. f }
@@ -212,7 +211,7 @@ module _ (s : Session) (d set : List ℕ) where
 
     switched_counts : (k : ℕ) → Counts (switched_of s k t y o)
     unfolding switched_of
-    switched_counts k = ends_here 4 _ 0 t y o refl refl tt
+    switched_counts k = ends_here Finish.Reply _ 0 t y o refl refl tt
 
     table_counts : (x : Filling) → Counts (table_of s x d t y o)
     unfolding table_of
@@ -230,7 +229,7 @@ module _ (s : Session) (d set : List ℕ) where
         let i : ℕ = next_of f names t (entries_in f k - from) from in
         split (λ v. Counts (outcome v t y o)) (ltb i (entries_in f k))
         (λ e. opening_counts k i (entry_of f t i) (open_check (filename_of f (entry_of f t i))))
-        (λ e. ends_here 3 _ 0 t y o refl refl tt)
+        (λ e. ends_here Finish.Dumped _ 0 t y o refl refl tt)
 
     module _ (k : ℕ) (x : Region) where
       next_counts : Counts (next_chunk s k x t y o)
@@ -240,7 +239,7 @@ module _ (s : Session) (d set : List ℕ) where
           (λ e. sends (Q.MemRead s.width _ _) _ 0 t y o (omega arith) tt)
 
       begun_counts : (v : Result Unit Refusal) → Counts (begun_of s k x t y o v)
-      begun_counts accepted =
+      begun_counts (Ok tt) =
           split Counts (ltb (256 ^ f) (x.base + x.len)) (λ e. silent _ 0 (A.Refused (past_end s.width)) t y o refl tt refl) (λ e. next_counts)
       begun_counts (Err why) = silent _ 0 (A.Refused why) t y o refl tt refl
 
@@ -278,20 +277,20 @@ module _ (s : Session) (d set : List ℕ) where
     phase_counts (P.Region k x) e = region_counts k x
     phase_counts (P.Ended k) e = silent s 0 (A.Refused Refusal.Ended) t y o refl calm refl
 
-    untouched_counts : (why : ℕ) → Counts (outcome (gives s 0 (A.Refused why)) t y o)
+    untouched_counts : (why : Refusal) → Counts (outcome (gives s 0 (A.Refused why)) t y o)
     untouched_counts why = silent s 0 (A.Refused why) t y o refl calm refl
 
     step_counts : Counts (step_of s d set names t y o)
     unfolding step_of
     step_counts =
-        split Counts (not (well_formed true set)) (λ e. untouched_counts 1)
+        split Counts (not (well_formed true set)) (λ e. untouched_counts Refusal.ImageSet)
         (λ e.
-        split Counts (not (well_formed false names)) (λ m. untouched_counts 2)
+        split Counts (not (well_formed false names)) (λ m. untouched_counts Refusal.NameList)
         (λ m.
-        split Counts (ltb (length o) 48) (λ i. untouched_counts 3)
+        split Counts (ltb (length o) 48) (λ i. untouched_counts Refusal.OutBuffer)
         (λ i.
-        split Counts (is_ended s.phase) (λ j. untouched_counts 4)
-        (λ j. split Counts (limit_of s t y) (λ k. untouched_counts 18) (λ k. phase_counts s.phase calm)))))
+        split Counts (is_ended s.phase) (λ j. untouched_counts Refusal.Ended)
+        (λ j. split Counts (limit_of s t y) (λ k. untouched_counts Refusal.Limit) (λ k. phase_counts s.phase calm)))))
 
     -- an ended session stays as it is, and nothing is reported
     abbrev Over : Outcome → Type 0
@@ -368,13 +367,13 @@ module _ (c : Setting) where
     counter = counts_from ls (start definitions c) refl ∙ zero-add (reads_in all)
 
     -- an end comes last, with the number of those sent before it
-    pub end_counts : (l m : List Report) (how r : ℕ) → all ≡ l ++ (finished how r ∷ m) → (r ≡ reads_in l) × (m ≡ [])
+    pub end_counts : (l m : List Report) (how : Finish) (r : ℕ) → all ≡ l ++ (finished how r ∷ m) → (r ≡ reads_in l) × (m ≡ [])
     end_counts l m how r e =
         let y = told_end l m 0 how r (rw e at (told_from ls (start definitions c) refl)) in
         (y.0 ∙ zero-add (reads_in l), y.1)
 
     -- so it carries the counter
-    pub end_reads : (l m : List Report) (how r : ℕ) → all ≡ l ++ (finished how r ∷ m)
+    pub end_reads : (l m : List Report) (how : Finish) (r : ℕ) → all ≡ l ++ (finished how r ∷ m)
         → r ≡ (final after (start definitions c) ls).state.reads
     unfolding how_many
     end_reads l m how r e =

@@ -45,7 +45,6 @@ use Rattle.fetch.specs.Plain.{
 use Rattle.fetch.specs.Claim.{region_bytes, region_reads}
 use Rattle.fetch.proofs.Chunk.{most_reads, CutAt}
 use Rattle.fetch.proofs.Ghost.{Ghost, told_by, after_step}
-use Rattle.std.specs.Prelude.{Ok}
 use Rattle.refusal.specs.Refusal.{accepted}
 
 -- ---- inside a region

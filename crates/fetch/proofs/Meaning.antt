@@ -60,6 +60,7 @@ use Rattle.fetch.proofs.Verdict.{sane}
 use Rattle.fetch.proofs.Cutting.{never, no_response}
 use Rattle.std.specs.Prelude.{Result, Ok, Err}
 use Rattle.refusal.specs.declared.Refusal.{Refusal}
+use Rattle.verdict.specs.declared.Finish.TheVariants as Finish
 
 shown_append : (l m : List Report) → shown (l ++ m) ≡ shown l ++ shown m
 unfolding shown
@@ -141,7 +142,7 @@ module _ (v : Width) (u : Opening) (z : Chunk (chunk_of u)) (mem : ℕ → ℕ) 
   abbrev f : ℕ
   f = field_size v
 
-  regions_shown : (is : List ℕ) (r : ℕ) → shown (regions v u mem t is r) ≡ regions_in f mem t is ++ (finished 3 (r + region_reads f u t is) ∷ [])
+  regions_shown : (is : List ℕ) (r : ℕ) → shown (regions v u mem t is r) ≡ regions_in f mem t is ++ (finished Finish.Dumped (r + region_reads f u t is) ∷ [])
   unfolding shown regions regions_in region_reads
   regions_shown [] r = rw add-zero refl
   regions_shown (i ∷ is) r =

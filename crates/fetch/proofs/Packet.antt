@@ -64,9 +64,9 @@ use Rattle.fetch.proofs.Device.{unserved, served_read, Came, no_longer, first_of
 use Rattle.fetch.proofs.Cutting.{Sized, size_ok, Begins, Halts, starts}
 use Rattle.fetch.proofs.Verdict.{sane}
 use Rattle.fetch.proofs.Invariant.{cost, table_at, to_come, GoodPacket, due_packet, behind, bound_packet, Kept, via}
-use Rattle.refusal.specs.declared.Refusal.TheVariants as Refusal
 use Rattle.std.specs.Prelude.{Result, Ok, Err}
 use Rattle.refusal.specs.declared.Refusal.{Refusal}
+use Rattle.verdict.specs.declared.Finish.{Finish}
 
 none : (l : List ℕ) → length l ≡ 0 → l ≡ []
 none [] e = refl
@@ -303,7 +303,7 @@ module _ (c : Setting) (dbg : Debug) (en : Ending) (h : ℕ) (w : Ghost) (g : Go
             onward A.Go w.out g.out (rw append-nil queue_rest) (ap (λ (o : Heard). o.ending) f) (rw f refl)
 
         -- it ends the session
-        finish : (how : ℕ) → verdict ≡ Ok (W.Finish how)
+        finish : (how : Finish) → verdict ≡ Ok (W.Finish how)
             → Keeps (outcome (gives (ended w.session) k (A.Finished how w.session.reads)) w.table w.reply w.out)
         finish how e =
             let f : heard ≡ say (finished how 0) (stop Stopped) = first.cut ∙ rw e refl in
@@ -313,7 +313,7 @@ module _ (c : Setting) (dbg : Debug) (en : Ending) (h : ℕ) (w : Ghost) (g : Go
               fell = omega arith;
             }
 
-        refuse : (why : ℕ) → verdict ≡ Err why
+        refuse : (why : Refusal) → verdict ≡ Err why
             → Keeps (outcome (gives (ended w.session) k (A.Refused why)) w.table w.reply w.out)
         refuse why e =
             let f : heard ≡ stop Stopped = first.cut ∙ rw e refl in

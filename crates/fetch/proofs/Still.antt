@@ -35,7 +35,6 @@ use Rattle.base.proofs.Tests.{split, differ}
 use Rattle.fetch.proofs.Verdict.{Ends, Sane, sane}
 use Rattle.std.specs.Prelude.{Result, Ok, Err}
 use Rattle.refusal.specs.declared.Refusal.{Refusal}
-use Rattle.refusal.specs.Refusal.{accepted}
 
 -- not such a refusal
 abbrev pub Quiet : Outcome → Type 0
@@ -50,7 +49,7 @@ NameSane (Err why) = Ends why
 opening_sane : (name : List ℕ) → NameSane (open_check name)
 unfolding open_check
 opening_sane name =
-    split NameSane (has 0 name) (λ e. split NameSane (utf8 (before 0 name)) (λ m. tt) (λ m. refl)) (λ e. refl)
+    split NameSane (has 0 name) (λ e. split NameSane (utf8 (before 0 name)) (λ m. tt) (λ m. refl)) (λ e. refl {a = false})
 
 opened_sane : (name : List ℕ) → NameSane (after_open_check name)
 unfolding after_open_check
@@ -121,7 +120,7 @@ module _ (s : Session) (d set names t y o : List ℕ) where
   next_quiet k x = split Quiet (leb x.len x.done) (λ e h. h) (λ e h. h)
 
   begun_quiet : (k : ℕ) (x : Region) (c : Result Unit Refusal) → NameSane c → Quiet (begun_of s k x t y o c)
-  begun_quiet k x accepted e =
+  begun_quiet k x (Ok tt) e =
       split Quiet (ltb (256 ^ f) (x.base + x.len)) (λ m. rw (past_sane s.width) (λ h. h)) (λ m. next_quiet k x)
   begun_quiet k x (Err why) e = rw e (λ h. h)
 
@@ -153,7 +152,7 @@ module _ (s : Session) (d set names t y o : List ℕ) where
 
   -- refused with session and buffers untouched, nothing taken
   pub record Still (r : Outcome) : Type 0 where
-    pub why : ℕ
+    pub why : Refusal
     pub same : r ≡ untouched s why t y o
 
   abbrev pub Same : Outcome → Type 0
@@ -167,21 +166,21 @@ module _ (s : Session) (d set names t y o : List ℕ) where
   phase_still (P.Table x) e = absurd (phase_quiet (P.Table x) refl e)
   phase_still (P.Between k i) e = absurd (phase_quiet (P.Between k i) refl e)
   phase_still (P.Region k x) e = absurd (phase_quiet (P.Region k x) refl e)
-  phase_still (P.Ended k) e = record { why = 4; same = refl }
+  phase_still (P.Ended k) e = record { why = Refusal.Ended; same = refl }
 
-  refused_still : (why : ℕ) → Same (untouched s why t y o)
+  refused_still : (why : Refusal) → Same (untouched s why t y o)
   refused_still why e = record { why = why; same = refl }
 
   pub step_still : Same (step_of s d set names t y o)
   unfolding step_of
   step_still =
-      split Same (not (well_formed true set)) (λ e. refused_still 1)
+      split Same (not (well_formed true set)) (λ e. refused_still Refusal.ImageSet)
       (λ e.
-      split Same (not (well_formed false names)) (λ m. refused_still 2)
+      split Same (not (well_formed false names)) (λ m. refused_still Refusal.NameList)
       (λ m.
-      split Same (ltb (length o) 48) (λ i. refused_still 3)
+      split Same (ltb (length o) 48) (λ i. refused_still Refusal.OutBuffer)
       (λ i.
-      split Same (is_ended s.phase) (λ j. refused_still 4)
+      split Same (is_ended s.phase) (λ j. refused_still Refusal.Ended)
       (λ j.
-      split Same (limit_of s t y) (λ k. refused_still 18)
+      split Same (limit_of s t y) (λ k. refused_still Refusal.Limit)
       (λ k. phase_still s.phase)))))

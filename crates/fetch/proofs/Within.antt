@@ -46,8 +46,6 @@ use Rattle.fetch.proofs.Sent.{length_out}
 use Rattle.fetch.proofs.Verdict.{Sane, sane}
 use Rattle.std.specs.Prelude.{Result, Ok, Err}
 use Rattle.refusal.specs.declared.Refusal.{Refusal}
-use Rattle.refusal.specs.declared.Refusal.TheVariants as Refusal
-use Rattle.refusal.specs.Refusal.{accepted}
 use Rattle.verdict.specs.declared.Finish.TheVariants as Finish
 
 module _ (s : Session) (d set names t y o : List ℕ) where
@@ -83,7 +81,7 @@ module _ (s : Session) (d set names t y o : List ℕ) where
   live (P.Region k x) e = tt
   live (P.Ended k) e = differ (sym e)
 
-  untouched_within : (why : ℕ) → Keeps (untouched s why t y o)
+  untouched_within : (why : Refusal) → Keeps (untouched s why t y o)
   untouched_within why = plainly s 0 (A.Refused why) none tt (live s.phase)
 
   -- ---- behind the tests of 3 and 18
@@ -188,7 +186,7 @@ module _ (s : Session) (d set names t y o : List ℕ) where
           (λ m. sends (Q.MemRead s.width _ _) _ 0 none (λ j. tt))
 
       begun_within : (c : Result Unit Refusal) → Keeps (begun_of s k x t y o c)
-      begun_within accepted =
+      begun_within (Ok tt) =
           split Keeps (ltb (256 ^ f) (x.base + x.len)) (λ m. plainly _ 0 (A.Refused (past_end s.width)) none tt (λ j. no_reply)) (λ m. next_within)
       begun_within (Err why) = plainly _ 0 (A.Refused why) none tt (λ j. no_reply)
 
@@ -220,20 +218,20 @@ module _ (s : Session) (d set names t y o : List ℕ) where
     phase_within (P.Region k x) e =
         let q = neither _ _ (neither _ _ (neither _ _ e).0).0 in
         region_within k x (entry_in_lem k x.entry (ltb-false _ _ q.0) (leb-false _ _ q.1))
-    phase_within (P.Ended k) e = untouched_within 4
+    phase_within (P.Ended k) e = untouched_within Refusal.Ended
 
   keeps : Keeps (step_of s d set names t y o)
   unfolding step_of limit_of
   keeps =
-      split Keeps (not (well_formed true set)) (λ e. untouched_within 1)
+      split Keeps (not (well_formed true set)) (λ e. untouched_within Refusal.ImageSet)
       (λ e.
-      split Keeps (not (well_formed false names)) (λ m. untouched_within 2)
+      split Keeps (not (well_formed false names)) (λ m. untouched_within Refusal.NameList)
       (λ m.
-      split Keeps (ltb (length o) 48) (λ i. untouched_within 3)
+      split Keeps (ltb (length o) 48) (λ i. untouched_within Refusal.OutBuffer)
       (λ i.
-      split Keeps (is_ended s.phase) (λ j. untouched_within 4)
+      split Keeps (is_ended s.phase) (λ j. untouched_within Refusal.Ended)
       (λ j.
-      split Keeps (reads_limit s || phase_limit f s.window s.phase t y) (λ k. untouched_within 18)
+      split Keeps (reads_limit s || phase_limit f s.window s.phase t y) (λ k. untouched_within Refusal.Limit)
       (λ k. phase_within (ltb-false _ _ i) s.phase (neither (reads_limit s) (phase_limit f s.window s.phase t y) k).1)))))
 
   pub step_within : Within f (given_of (step_of s d set names t y o)) d set t y o

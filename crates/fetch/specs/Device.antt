@@ -13,6 +13,7 @@ use Rattle.session.specs.declared.Answer.{Answer}
 use Rattle.session.specs.declared.Answer.TheVariants as A
 use Rattle.session.specs.Outcome.{Outcome, opened_with}
 use Rattle.session.specs.Step.{step_of}
+use Rattle.refusal.specs.Refusal.{refusal_number}
 use Rattle.fetch.specs.Plain.{Report, sent, image, opened, byte, empty_read, closed, finished, reads_as, bytes_at, Setting}
 
 -- ---- a host
@@ -136,7 +137,7 @@ aside (A.Bytes k) = false
 aside A.EmptyRead = false
 aside (A.Close i) = false
 aside (A.Finished how r) = false
-aside (A.Refused why) = eqb why 1 || eqb why 2 || eqb why 3 || eqb why 4 || eqb why 18
+aside (A.Refused why) = let n = refusal_number why in eqb n 1 || eqb n 2 || eqb n 3 || eqb n 4 || eqb n 18
 
 -- "A delivery is a non-empty beginning of the queue, empty only when nothing is queued.": of a queue with bytes at least one, of an empty one any k; where
 -- k passes the queue's end, all of it is delivered

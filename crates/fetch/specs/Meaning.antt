@@ -4,6 +4,7 @@
 use Rattle.std.specs.Prelude.{ℕ, ◌+◌, ◌≡◌, Bool, false, List, [], ◌∷◌, ◌++◌, map}
 use Rattle.entry.specs.Entry.{entry_of, base_of, length_of}
 use Rattle.steps.specs.Steps.{one}
+use Rattle.verdict.specs.declared.Finish.TheVariants as Finish
 use Rattle.fetch.specs.Plain.{
   Report,
   sent,
@@ -70,6 +71,6 @@ pub record Meant (c : Setting) (dbg : Debug) (l : List Report) : Type 0 where
   -- reads
   pub shows :
       shown l
-      ≡ regions_in (field_in dbg) c.mem (table_in c.mem dbg) (selected_in c.mem c.names dbg) ++ (finished 3 (reads_of c dbg) ∷ [])
+      ≡ regions_in (field_in dbg) c.mem (table_in c.mem dbg) (selected_in c.mem c.names dbg) ++ (finished Finish.Dumped (reads_of c dbg) ∷ [])
   -- and so many were sent
   pub reads : reads_in l ≡ reads_of c dbg

@@ -2,7 +2,34 @@
 -- step it shares the verdict on one whole packet and the leaves, and knows nothing of its phases. ("Opening" is what a session is opened with, as in
 -- verdict/specs/Opening; the device's first bytes are its opening bytes; a region is opened by a report `opened`.) Document 02, request 2: "After MemDebug the
 -- host, the plain host too, sends MemRead for the table and for every chunk, each counted as a memory read".
-use Rattle.std.specs.Prelude.{ℕ, zero, suc, ◌+◌, ◌-◌, ◌%◌, min, Bool, true, false, not, ◌&&◌, ◌||◌, List, [], ◌∷◌, ◌++◌, map, ltb, eqb, length, take, drop, Result, Ok, Err}
+use Rattle.std.specs.Prelude.{
+  ℕ,
+  zero,
+  suc,
+  ◌+◌,
+  ◌-◌,
+  ◌%◌,
+  min,
+  Bool,
+  true,
+  false,
+  not,
+  ◌&&◌,
+  ◌||◌,
+  List,
+  [],
+  ◌∷◌,
+  ◌++◌,
+  map,
+  ltb,
+  eqb,
+  length,
+  take,
+  drop,
+  Result,
+  Ok,
+  Err,
+}
 use Rattle.base.specs.Choice.{pick}
 use Rattle.field.specs.Field.{field_size}
 use Rattle.field.specs.declared.Width.{Width}
@@ -20,6 +47,7 @@ use Rattle.verdict.specs.declared.Opening.{Opening}
 use Rattle.verdict.specs.declared.Verdict.{Verdict}
 use Rattle.verdict.specs.declared.Verdict.TheVariants as W
 use Rattle.refusal.specs.declared.Refusal.{Refusal}
+use Rattle.verdict.specs.declared.Finish.{Finish}
 
 -- what a host does that can be seen: a packet sent, an image's bytes, a region opened, a byte of it handed out, an empty read, a region closed,
 -- finished with the memory reads
@@ -30,7 +58,7 @@ pub data Report : Type 0 where
   byte : ℕ → Report
   empty_read : Report
   closed : ℕ → Report
-  finished : ℕ → ℕ → Report
+  finished : Finish → ℕ → Report
 
 -- a packet is a memory read of this width; of either
 abbrev pub reads_as : Width → List ℕ → Bool
@@ -140,7 +168,7 @@ chunk_count u l = chunks_in (chunk_of u) l
 -- the regions of the entries is of the table t, with r memory reads before them. "Last comes finished (3) with the count: one for the table, one a
 -- chunk."
 unfoldable pub regions : Width → Opening → (ℕ → ℕ) → List ℕ → List ℕ → ℕ → List Report
-regions v u mem t [] r = finished 3 r ∷ []
+regions v u mem t [] r = finished Finish.Dumped r ∷ []
 regions v u mem t (i ∷ is) r =
     let e = entry_of (field_size v) t i in
     let l = length_of (field_size v) e in

@@ -24,7 +24,7 @@ use Rattle.fetch.specs.Plain.{Debug, Setting}
 use Rattle.fetch.specs.Device.{Given, Host, Lent, given_of, start}
 use Rattle.fetch.specs.Claim.{Run, enough, Premises, Fetched}
 use Rattle.refusal.specs.declared.Refusal.TheVariants as Refusal
-use Rattle.verdict.specs.declared.Finish.TheVariants as Finish
+use Rattle.verdict.specs.declared.Finish.{Finish}
 
 -- demand 3 is false of a host on a board of this width: a run that meets the premises, a fair list of steps, and what is claimed of it does not hold
 pub record FailsOn (h : Host) (v : Width) : Type 0 where
@@ -57,7 +57,7 @@ abbrev pub answering : Answer → Given Session → Given Session
 answering a r = giving r.state r.taken a r
 
 -- by the answer: what is given where it sends, opens a region, hands out bytes, finishes; else x
-abbrev pub by_answer : {X : Type 0} → X → (ℕ → X) → (ℕ → X) → (ℕ → X) → (ℕ → ℕ → X) → Answer → X
+abbrev pub by_answer : {X : Type 0} → X → (ℕ → X) → (ℕ → X) → (ℕ → X) → (Finish → ℕ → X) → Answer → X
 by_answer x sends opens hands ends A.Go = x
 by_answer x sends opens hands ends (A.Send k) = sends k
 by_answer x sends opens hands ends (A.Image a k) = x
@@ -77,7 +77,7 @@ on_open f r = by_answer r (λ k. r) f (λ k. r) (λ how n. r) r.answer
 abbrev pub on_bytes : Given Session → Given Session → Given Session
 on_bytes x r = by_answer r (λ k. r) (λ i. r) (λ k. x) (λ how n. r) r.answer
 
-abbrev pub on_finished : (ℕ → ℕ → Given Session) → Given Session → Given Session
+abbrev pub on_finished : (Finish → ℕ → Given Session) → Given Session → Given Session
 on_finished f r = by_answer r (λ k. r) (λ i. r) (λ k. r) f r.answer
 
 -- by the phase: what is given of a region, and of the table's length; else x

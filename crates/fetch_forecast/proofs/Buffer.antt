@@ -33,7 +33,6 @@ use Rattle.fetch.proofs.Lent.{kept_lent}
 use Rattle.fetch_forecast.specs.Claim.{DecodesIn, Decodes}
 use Rattle.std.specs.Prelude.{Result, Ok, Err}
 use Rattle.refusal.specs.declared.Refusal.{Refusal}
-use Rattle.refusal.specs.declared.Refusal.TheVariants as Refusal
 use Rattle.verdict.specs.declared.Finish.TheVariants as Finish
 
 -- the table has come: it decodes to a list, the numbers being of f bytes and b the buffer; or the session has ended

@@ -22,7 +22,7 @@ use Rattle.packet.specs.Packet.{length_field, bad_length}
 use Rattle.build.specs.Build.{size_of, front}
 use Rattle.build.specs.declared.Request.TheVariants as Q
 use Rattle.verdict.specs.Opening.{chunk_of}
-use Rattle.verdict.specs.Verdict.{verdict_of}
+use Rattle.verdict.specs.Verdict.{finish_number, verdict_of}
 use Rattle.verdict.specs.declared.Opening.{Opening}
 use Rattle.verdict.specs.declared.Verdict.{Verdict}
 use Rattle.verdict.specs.declared.Verdict.TheVariants as W
@@ -55,8 +55,6 @@ use Rattle.fetch_forecast.specs.Claim.{is_opened, is_byte, DecodesIn, Decodes, i
 use Rattle.fetch_forecast.proofs.Counting.{bytes_bytes, selected_chosen, summed_bytes, summed_reads}
 use Rattle.std.specs.Prelude.{Result, Ok, Err}
 use Rattle.refusal.specs.declared.Refusal.{Refusal}
-use Rattle.refusal.specs.declared.Refusal.TheVariants as Refusal
-use Rattle.refusal.specs.Refusal.{accepted}
 use Rattle.verdict.specs.declared.Finish.TheVariants as Finish
 
 -- ---- finished (3)
@@ -69,7 +67,7 @@ finishes_three (A.Open i) = false
 finishes_three (A.Bytes k) = false
 finishes_three A.EmptyRead = false
 finishes_three (A.Close i) = false
-finishes_three (A.Finished how r) = eqb how 3
+finishes_three (A.Finished how r) = eqb (finish_number how) 3
 finishes_three (A.Refused why) = false
 
 other : {X : Type 0} (a : Answer) → finishes_three a ≡ false → (q : ℕ) → a ≡ A.Finished Finish.Dumped q → X
@@ -193,7 +191,7 @@ module _ (u : Opening) (names : List ℕ) where
         (λ es x. inl (subst (λ (z : Phase). DecodesIn f z (put t) es) (sym e) (rw stays x)))
 
     -- it is refused and ends
-    over : (p : Phase) (j why : ℕ) → Goes p (outcome (gives (ended s) j (A.Refused why)) t y o)
+    over : (p : Phase) (j : ℕ) (why : Refusal) → Goes p (outcome (gives (ended s) j (A.Refused why)) t y o)
     unfolding how_many
     over p j why = quiet p (ended s) j (A.Refused why) t y o refl refl refl tt refl (λ es x. inr tt)
 
@@ -315,7 +313,7 @@ module _ (u : Opening) (names : List ℕ) where
       opening_goes : (c : Result Unit Refusal) → found < entries_in f k → LentBy (outcome (open_of f s k found (entry_of f t found) c) t y o)
           → Goes (P.Between k from) (outcome (open_of f s k found (entry_of f t found) c) t y o)
       unfolding how_many
-      opening_goes accepted h w =
+      opening_goes (Ok tt) h w =
           let x = opens_left (owned w) h in
           record {
             kept =
@@ -398,7 +396,7 @@ module _ (u : Opening) (names : List ℕ) where
           (λ i. quiet p _ 0 (A.Send _) t y _ refl refl refl (rw (stays, opens) (asks_left e (leb-false _ _ i))) refl (λ es v. inl (here es v)))
 
       begun_goes : x.outstanding ≡ 0 → (c : Result Unit Refusal) → Goes p (begun_of s k x t y o c)
-      begun_goes e accepted =
+      begun_goes e (Ok tt) =
           split (Goes p) (ltb (256 ^ f) (x.base + x.len)) (λ i. over p 0 (past_end s.width)) (λ i. next_goes e)
       begun_goes e (Err why) = over p 0 why
 
@@ -447,7 +445,7 @@ module _ (u : Opening) (names : List ℕ) where
     phase_goes (P.Ended k) e l g w = still (P.Ended k) e tt 0 (A.Refused Refusal.Ended) refl refl refl
 
     module _ (l : LeftIn f s.phase b n m s.reads) where
-      untouched_goes : (why : ℕ) → Goes s.phase (outcome (gives s 0 (A.Refused why)) t y o)
+      untouched_goes : (why : Refusal) → Goes s.phase (outcome (gives s 0 (A.Refused why)) t y o)
       unfolding how_many
       untouched_goes why = still s.phase refl l 0 (A.Refused why) refl refl refl
 
@@ -455,13 +453,13 @@ module _ (u : Opening) (names : List ℕ) where
       unfolding step_of limit_of
       step_goes =
           let G : Outcome → Type 0 = λ r. LentBy r → Goes s.phase r in
-          split G (not (well_formed true set)) (λ e w. untouched_goes 1)
+          split G (not (well_formed true set)) (λ e w. untouched_goes Refusal.ImageSet)
           (λ e.
-          split G (not (well_formed false names')) (λ i w. untouched_goes 2)
+          split G (not (well_formed false names')) (λ i w. untouched_goes Refusal.NameList)
           (λ i.
-          split G (ltb (length o) 48) (λ j w. untouched_goes 3)
+          split G (ltb (length o) 48) (λ j w. untouched_goes Refusal.OutBuffer)
           (λ j.
-          split G (is_ended s.phase) (λ g w. untouched_goes 4)
+          split G (is_ended s.phase) (λ g w. untouched_goes Refusal.Ended)
           (λ g.
-          split G (reads_limit s || phase_limit f s.window s.phase t y) (λ h w. untouched_goes 18)
+          split G (reads_limit s || phase_limit f s.window s.phase t y) (λ h w. untouched_goes Refusal.Limit)
           (λ h. phase_goes s.phase refl l (neither (reads_limit s) (phase_limit f s.window s.phase t y) h).1)))))

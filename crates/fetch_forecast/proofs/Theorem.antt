@@ -49,14 +49,14 @@ in_append [] m x h = inr h
 in_append (y ∷ l) m x h = ⊎_elim (λ e. inl (inl e)) (λ e. ⊎_elim (λ i. inl (inr i)) (λ i. inr i) (in_append l m x e)) h
 
 -- an end is among a step's reports where it is the step's answer
-no_end : {X : Type 0} (x : Report) (k : ℕ) → is_end x ≡ false → (finished 3 k ≡ x) ⊎ ⊥ → X
+no_end : {X : Type 0} (x : Report) (k : ℕ) → is_end x ≡ false → (finished Finish.Dumped k ≡ x) ⊎ ⊥ → X
 no_end x k h e = ⊎_elim (λ i. differ (sym h ∙ sym (ap is_end i))) (λ i. absurd i) e
 
-no_end_bytes : {X : Type 0} (l : List ℕ) (k : ℕ) → In (finished 3 k) (map byte l) → X
+no_end_bytes : {X : Type 0} (l : List ℕ) (k : ℕ) → In (finished Finish.Dumped k) (map byte l) → X
 no_end_bytes [] k h = absurd h
 no_end_bytes (b ∷ l) k h = ⊎_elim (λ i. differ (sym (ap is_end i))) (λ i. no_end_bytes l k i) h
 
-in_told : (a : Answer) (d set o : List ℕ) (k : ℕ) → In (finished 3 k) (reports_for a d set o) → a ≡ A.Finished Finish.Dumped k
+in_told : (a : Answer) (d set o : List ℕ) (k : ℕ) → In (finished Finish.Dumped k) (reports_for a d set o) → a ≡ A.Finished Finish.Dumped k
 in_told A.Go d set o k h = absurd h
 in_told (A.Send j) d set o k h = no_end _ k refl h
 in_told (A.Image x j) d set o k h = no_end _ k refl h
@@ -64,7 +64,7 @@ in_told (A.Open i) d set o k h = no_end _ k refl h
 in_told (A.Bytes j) d set o k h = no_end_bytes (take j d) k h
 in_told A.EmptyRead d set o k h = no_end _ k refl h
 in_told (A.Close i) d set o k h = no_end _ k refl h
-in_told (A.Finished how r) d set o k h = ⊎_elim (λ (e : finished 3 k ≡ finished how r). cc) (λ i. absurd i) h
+in_told (A.Finished how r) d set o k h = ⊎_elim (λ (e : finished Finish.Dumped k ≡ finished how r). cc) (λ i. absurd i) h
 in_told (A.Refused why) d set o k h = absurd h
 
 -- a session that has its table has not ended
@@ -108,7 +108,7 @@ module _ (c : Setting) where
       g.left (⊎_elim (λ e. inl e) (λ e. inr (lent_own l.names c.names (holds _ e.0), lent_own l.table w.table (holds _ e.1))) h)
 
   -- an end is told by a step that ends the session
-  told_last : (w : World Session) (l : Lent) (n m : ℕ) → Good w n m → Lends definitions c w l → (k : ℕ) → In (finished 3 k) (says c w l)
+  told_last : (w : World Session) (l : Lent) (n m : ℕ) → Good w n m → Lends definitions c w l → (k : ℕ) → In (finished Finish.Dumped k) (says c w l)
       → is_ended (after c w l).state.phase ≡ true
   told_last w l n m g h k i = (went w l n m g h).last k (in_told (made definitions c w l).answer _ _ _ k i)
 
@@ -130,17 +130,17 @@ module _ (c : Setting) where
       stays_over ls (after c w l) (rw o.0 k) (rw o.0 h)
 
   -- behind an end the session has ended
-  over_after : (ls : List Lent) (w : World Session) (n m : ℕ) → Good w n m → Fit w ls → (k : ℕ) → In (finished 3 k) (all w ls)
+  over_after : (ls : List Lent) (w : World Session) (n m : ℕ) → Good w n m → Fit w ls → (k : ℕ) → In (finished Finish.Dumped k) (all w ls)
       → is_ended (final (after c) w ls).state.phase ≡ true
   over_after [] w n m g h k i = absurd i
   over_after (l ∷ ls) w n m g h k i =
       let x = (went w l n m g h.0).kept in
       ⊎_elim (λ e. stays_over ls (after c w l) (good_calm (after c w l) _ _ x) (told_last w l n m g h.0 k e)) (λ e. over_after ls (after c w l) _ _ x h.1 k e)
-      (in_append (says c w l) (all (after c w l) ls) (finished 3 k) i)
+      (in_append (says c w l) (all (after c w l) ls) (finished Finish.Dumped k) i)
 
   -- from where the table is decoded on, to the end
   finishes : (es : List RamdumpTable64) (k : ℕ) (ls : List Lent) (w : World Session) (n m : ℕ) → Good w n m
-      → Decodes w.state w.table es ⊎ T (is_ended w.state.phase) → Fit w ls → In (finished 3 k) (all w ls)
+      → Decodes w.state w.table es ⊎ T (is_ended w.state.phase) → Fit w ls → In (finished Finish.Dumped k) (all w ls)
       → Done u c.names es (n + how_many is_opened (all w ls)) (m + how_many is_byte (all w ls)) k
   unfolding how_many
   finishes es k [] w n m g t h i = absurd i
@@ -150,19 +150,19 @@ module _ (c : Setting) where
       ⊎_elim
       (λ (e : Decodes w.state w.table es).
       ⊎_elim
-      (λ (j : In (finished 3 k) (says c w l)).
+      (λ (j : In (finished Finish.Dumped k) (says c w l)).
       let a : (made definitions c w l).answer ≡ A.Finished Finish.Dumped k = in_told (made definitions c w l).answer _ _ _ k j in
-      let q : says c w l ≡ finished 3 k ∷ [] =
+      let q : says c w l ≡ finished Finish.Dumped k ∷ [] =
       ap (λ (r : Answer). reports_for r (delivered l.delivery w.queue) (lent l.set c.set) (made definitions c w l).out) a in
       let z : y ≡ [] = all_over c ls (after c w l) (good_calm (after c w l) _ _ x.kept) (x.last k a) in
       rw (q, z, add-zero n, add-zero m) (x.ends k a es e))
-      (λ (j : In (finished 3 k) y).
+      (λ (j : In (finished Finish.Dumped k) y).
       rw (many_append is_opened (says c w l) y, many_append is_byte (says c w l) y, ← add_assoc n, ← add_assoc m)
       (finishes es k ls (after c w l) _ _ x.kept (x.table es e) h.1 j))
-      (in_append (says c w l) y (finished 3 k) i))
+      (in_append (says c w l) y (finished Finish.Dumped k) i))
       (λ (e : T (is_ended w.state.phase)).
       let z : all w (l ∷ ls) ≡ [] = all_over c (l ∷ ls) w (good_calm w n m g) (holds _ e) in
-      absurd (subst (In (finished 3 k)) z i))
+      absurd (subst (In (finished Finish.Dumped k)) z i))
       t
 
 pub foretold : Foretells definitions Decodes
@@ -177,10 +177,10 @@ foretold c before behind h es t regions bytes reads e l m k r =
     let v : all c s (before ++ behind) ≡ x ++ y = outs_append (after c) (says c) before behind s in
     let o : Kept c.opening c.names s.state s.table 0 0 = record { opening = refl; left = (refl, refl, refl) } in
     let g = along c before s 0 0 o b in
-    let i : In (finished 3 k) (x ++ y) = subst (In (finished 3 k)) (sym r ∙ v) (in_end l m (finished 3 k)) in
+    let i : In (finished Finish.Dumped k) (x ++ y) = subst (In (finished Finish.Dumped k)) (sym r ∙ v) (in_end l m (finished Finish.Dumped k)) in
     let d : Done c.opening c.names es (0 + how_many is_opened x + how_many is_opened y) (0 + how_many is_byte x + how_many is_byte y) k =
-    ⊎_elim (λ (j : In (finished 3 k) x). has_not_ended _ w.state.phase w.table es t (over_after c before s 0 0 o b k j))
-    (λ (j : In (finished 3 k) y). finishes c es k behind w _ _ g (inl t) a j) (in_append x y (finished 3 k) i) in
+    ⊎_elim (λ (j : In (finished Finish.Dumped k) x). has_not_ended _ w.state.phase w.table es t (over_after c before s 0 0 o b k j))
+    (λ (j : In (finished Finish.Dumped k) y). finishes c es k behind w _ _ g (inl t) a j) (in_append x y (finished Finish.Dumped k) i) in
     let q = needs_are _ es c.names regions bytes reads e in
     record {
       regions_are = rw (v, many_append is_opened x y) (omega (arith, d.regions, q.0));

@@ -3,13 +3,13 @@
 -- the bytes it handed out and the memory reads it reported." The device may be any, true or not: in the world of fetch/specs/Device a step is delivered the
 -- queue's first bytes or any others, and what it is lent besides (image set, reply and out buffer) may be another's in each step. The theorem, `Foretells
 -- definitions Decodes`, is `foretold` of proofs/Theorem; through the C interface and from the exported function it stands in fetch_forecast_raw.
-use Rattle.std.specs.Prelude.{ℕ, ◌⊎◌, ◌≡◌, Bool, true, false, List, ◌∷◌, ◌++◌, T, take}
+use Rattle.std.specs.Prelude.{ℕ, ◌⊎◌, ◌≡◌, Bool, true, false, List, ◌∷◌, ◌++◌, Ok, T, take}
 use Rattle.field.specs.Field.{field_size}
 use Rattle.entry.specs.Entry.{entries_of}
 use Rattle.entry.specs.declared.RamdumpTable64.{RamdumpTable64}
 use Rattle.verdict.specs.Opening.{chunk_of}
-use Rattle.forecast_sums.specs.Forecast.{forecast_of}
-use Rattle.forecast_sums.specs.declared.Foreseen.TheVariants as F
+use Rattle.verdict.specs.declared.Finish.TheVariants as Finish
+use Rattle.forecast_sums.specs.Forecast.{needs, forecast_of}
 use Rattle.session.specs.declared.Phase.{Phase}
 use Rattle.session.specs.declared.Phase.TheVariants as P
 use Rattle.session.specs.declared.Session.{Session}
@@ -92,7 +92,7 @@ Foretells h decodes =
     → (es : List RamdumpTable64)
     → decodes (final (next h c) (start h c) before).state (final (next h c) (start h c) before).table es
     → (regions bytes reads : ℕ)
-    → forecast_of (chunk_of c.opening) es c.names ≡ F.Needs regions bytes reads
+    → forecast_of (chunk_of c.opening) es c.names ≡ Ok (needs regions bytes reads)
     → (l m : List Report) (k : ℕ)
-    → reports h c (start h c) (before ++ after) ≡ l ++ (finished 3 k ∷ m)
+    → reports h c (start h c) (before ++ after) ≡ l ++ (finished Finish.Dumped k ∷ m)
     → Comes regions bytes reads k (reports h c (start h c) (before ++ after))

@@ -5,6 +5,7 @@ use mathlib.Core.Path.{◌≡◌, refl}
 use mathlib.Core.Logic.{inl, inr}
 use mathlib.Core.List.{List, [], ◌∷◌, ◌++◌, map}
 use Prim.Native.Nat.{ℕ}
+use Rattle.std.specs.Prelude.{Ok}
 use lib.ListN.{take, drop, replicate}
 use Rattle.field.specs.Field.{le, le_bytes, field_size, fields, words}
 use Rattle.field.specs.declared.Width.{Width}
@@ -21,8 +22,8 @@ use Rattle.build.specs.Build.{bytes_of}
 use Rattle.verdict.specs.Opening.{chunk_of}
 use Rattle.verdict.specs.Verdict.{verdict_of}
 use Rattle.verdict.specs.declared.QdlBackend.TheVariants as U
-use Rattle.forecast_sums.specs.Forecast.{is_selected, selected_of, summed, forecast_of}
-use Rattle.forecast_sums.specs.declared.Foreseen.TheVariants as F
+use Rattle.verdict.specs.declared.Finish.TheVariants as Finish
+use Rattle.forecast_sums.specs.Forecast.{is_selected, selected_of, summed, needs, forecast_of}
 use Rattle.session.specs.PacketPhase.{whole_of, sized_of, packet_of}
 use Rattle.session.specs.FillingPhase.{table_of}
 use Rattle.session.specs.BetweenPhase.{between_of}
@@ -208,13 +209,13 @@ decoded_inside WI.Bits32 = refl
 decoded_inside WI.Bits64 = refl
 
 -- two regions, 5 bytes, two memory reads
-pub forecast : (v : Width) → forecast_of (chunk_of board.opening) (entries v) board.names ≡ F.Needs 2 5 2
+pub forecast : (v : Width) → forecast_of (chunk_of board.opening) (entries v) board.names ≡ Ok (needs 2 5 2)
 unfolding forecast_of is_selected selected_of summed chunk_of well_formed slots_good slot_of stem_of before low names_from same member has goes_on leads after_first table
     fields le le_bytes
 forecast WI.Bits32 = refl
 forecast WI.Bits64 = refl
 
-pub reported : (v : Width) → reports definitions board (start definitions board) (first_steps v ++ last_steps) ≡ told v ++ (finished 3 2 ∷ [])
+pub reported : (v : Width) → reports definitions board (start definitions board) (first_steps v ++ last_steps) ≡ told v ++ (finished Finish.Dumped 2 ∷ [])
 unfolding step_of limit_of packet_of sized_of whole_of table_of between_of next_chunk ask_of hand_of region_of chunk_of open_check after_open_check
     next_of served well_formed slots_good slot_of verdict_of decode_of class_of kinds kind_of bytes_of selected stem_of before low names_from
     same member has goes_on leads after_first table fields le le_bytes
@@ -231,6 +232,6 @@ claimed_inside v =
     foretold board (first_steps v ++ take 3 last_steps) (drop 3 last_steps) (fit v) (entries v) (decoded_inside v) 2 5 2 (forecast v) (told v) [] 2 (reported v)
 
 -- as the report itself says
-counted : (v : Width) → Comes 2 5 2 2 (told v ++ (finished 3 2 ∷ []))
+counted : (v : Width) → Comes 2 5 2 2 (told v ++ (finished Finish.Dumped 2 ∷ []))
 unfolding how_many
 counted v = record { regions_are = refl; bytes_are = refl; reads_are = refl }

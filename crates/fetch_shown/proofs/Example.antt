@@ -25,6 +25,7 @@ use Rattle.verdict.specs.Verdict.{verdict_of}
 use Rattle.verdict.specs.declared.QdlBackend.{QdlBackend}
 use Rattle.verdict.specs.declared.QdlBackend.TheVariants as U
 use Rattle.verdict.specs.declared.Opening.{Opening}
+use Rattle.verdict.specs.declared.Finish.TheVariants as Finish
 use Rattle.session.specs.PacketPhase.{whole_of, sized_of, packet_of}
 use Rattle.session.specs.FillingPhase.{table_of}
 use Rattle.session.specs.BetweenPhase.{between_of}
@@ -230,7 +231,7 @@ told v b =
     ∷ closed 2
     ∷ opened 3
     ∷ sent (read_bytes v (high v) 3)
-    ∷ (map byte (bytes_at (device v b).mem (high v) 3) ++ (closed 3 ∷ finished 3 4 ∷ [])))))))
+    ∷ (map byte (bytes_at (device v b).mem (high v) 3) ++ (closed 3 ∷ finished Finish.Dumped 4 ∷ [])))))))
 
 -- by the list of steps
 played : (v : Width) (b : QdlBackend) → reports definitions (device v b) (start definitions (device v b)) moves ≡ told v b
@@ -286,7 +287,7 @@ record Loads (rest : List ℕ) (n : ℕ) (l : List Report) : Type 0 where
   pub steps : enough_for (loader rest) (stops covered) ≡ n
   pub planned : plain (loader rest) ≡ l
 
-done_loads : Loads done 34 (image (11 ∷ 12 ∷ []) ∷ finished 1 0 ∷ [])
+done_loads : Loads done 34 (image (11 ∷ 12 ∷ []) ∷ finished Finish.ImagesSent 0 ∷ [])
 unfolding plain hosted hear reports_of dump well_formed slots_good slot_of verdict_of decode_of class_of kinds kind_of fields le le_bytes
 done_loads = record { covered = refl; steps = refl; planned = refl }
 

@@ -22,6 +22,7 @@ use Rattle.build.specs.Build.{bytes_of}
 use Rattle.build.specs.declared.Request.{Request}
 use Rattle.verdict.specs.Opening.{chunk_of}
 use Rattle.verdict.specs.Verdict.{verdict_of}
+use Rattle.verdict.specs.declared.Finish.TheVariants as Finish
 use Rattle.verdict.specs.declared.QdlBackend.{QdlBackend}
 use Rattle.verdict.specs.declared.QdlBackend.TheVariants as U
 use Rattle.session.specs.declared.Session.{Session}
@@ -133,7 +134,7 @@ two_told v =
     ∷ byte 247
     ∷ byte 248
     ∷ closed 0
-    ∷ finished 3 2
+    ∷ finished Finish.Dumped 2
     ∷ []
 
 abbrev by_one : List Lent
@@ -157,9 +158,9 @@ record OnTwo (v : Width) : Type 0 where
   -- an opening byte is handed out, whatever was sent
   pub greedy_plays : (q : Request) → Plays (greedy q) (two v) at_once 1 (byte (command v))
   -- the end is told in the place of open, with any memory reads
-  pub early_plays : (count : List ℕ → List ℕ → Session → ℕ) → (r : ℕ) × Plays (early count) (two v) by_one 1 (finished 3 r)
+  pub early_plays : (count : List ℕ → List ℕ → Session → ℕ) → (r : ℕ) × Plays (early count) (two v) by_one 1 (finished Finish.Dumped r)
   -- the end is told with other memory reads than were made
-  pub inventing_plays : (count : ℕ → ℕ) → Plays (inventing count) (two v) by_one 6 (finished 3 (count 2))
+  pub inventing_plays : (count : ℕ → ℕ) → Plays (inventing count) (two v) by_one 6 (finished Finish.Dumped (count 2))
 
 on_two : (v : Width) → OnTwo v
 unfolding drive all_fair plain hosted hear reports_of dump regions chunks chosen step_of limit_of packet_of sized_of whole_of table_of between_of next_chunk
@@ -214,11 +215,11 @@ greedy_refuted q v =
 pub early_refuted : (count : List ℕ → List ℕ → Session → ℕ) (v : Width) → FailsOn (early count) v
 early_refuted count v =
     let x = (on_two v).early_plays count in
-    two_fails (early count) v by_one 1 (finished 3 x.0) x.1 (λ e. let z : ◌≡◌ {A = ℕ} 0 1 = cc in omega arith)
+    two_fails (early count) v by_one 1 (finished Finish.Dumped x.0) x.1 (λ e. let z : ◌≡◌ {A = ℕ} 0 1 = cc in omega arith)
 
 -- it finishes with 2 memory reads: one for the table and one for the region
 pub inventing_refuted : (count : ℕ → ℕ) → (count 2 ≡ 2 → ⊥) → (v : Width) → FailsOn (inventing count) v
-inventing_refuted count z v = two_fails (inventing count) v by_one 6 (finished 3 (count 2)) ((on_two v).inventing_plays count) (λ e. z cc)
+inventing_refuted count z v = two_fails (inventing count) v by_one 6 (finished Finish.Dumped (count 2)) ((on_two v).inventing_plays count) (λ e. z cc)
 
 -- ---- three devices more, each for one host
 
@@ -330,7 +331,7 @@ pub record Tight (v : Width) (k : ℕ) : Type 0 where
   pub premises : Premises (empty_table v) (entries_at v 0)
   pub enough : enough (empty_table v) (entries_at v 0) ≡ k
   -- the plain host sends the memory read and finishes
-  pub planned : plain (empty_table v) ≡ sent (read_bytes v 0 0) ∷ finished 3 1 ∷ []
+  pub planned : plain (empty_table v) ≡ sent (read_bytes v 0 0) ∷ finished Finish.Dumped 1 ∷ []
   -- the host of the definitions: the whole after so many steps, and not before
   pub before : reports definitions (empty_table v) (start definitions (empty_table v)) (drive 1 (k - 1)) ≡ sent (read_bytes v 0 0) ∷ []
   pub all : reports definitions (empty_table v) (start definitions (empty_table v)) (drive 1 k) ≡ plain (empty_table v)

@@ -12,7 +12,8 @@ use build::{Request, build};
 use copy::copy_into;
 use limits::filling_limit;
 use session::{Answer, Filling, Phase, Session, Stepped};
-use turn::{guard, least, moved, untouched};
+use turn::{guard, moved, untouched};
+use verdict::Finish;
 
 // Fills in what the delivery has of the bytes that are missing: how many.
 fn fill(x: Filling, buffer: &mut [u8], delivery: &[u8]) -> usize
@@ -20,9 +21,8 @@ fn fill(x: Filling, buffer: &mut [u8], delivery: &[u8]) -> usize
     ensures { (result ≡ min (x.declared - x.filled) (length delivery.now))
         × (buffer.new ≡ paste buffer.old x.filled delivery.now result) }
 {
-    let at = x.filled;
-    let n = least(x.declared - at, delivery.len());
-    copy_into(buffer, at, delivery, n);
+    let n = (x.declared - x.filled).min(delivery.len());
+    copy_into(buffer, x.filled, delivery, n);
     n
 }
 
@@ -38,8 +38,7 @@ pub fn response_step(
     ensures { Tells outcome_told (outcome result table.now reply.new out.new)
         (response_step s x delivery.now table.now reply.old out.old) }
 {
-    let why = guard(s, filling_limit(x, reply), out);
-    if why != 0 {
+    if let Err(why) = guard(s, filling_limit(x, reply), out) {
         return untouched(s, why);
     }
     let declared = x.declared;
@@ -52,8 +51,8 @@ pub fn response_step(
         };
         return moved(s, Phase::Response(next), n, Answer::Go);
     }
-    build(out, Request::SwitchMode);
-    moved(s, Phase::Switched(declared), n, Answer::Send(12))
+    let k = build(out, Request::SwitchMode).unwrap();
+    moved(s, Phase::Switched(declared), n, Answer::Send(k))
 }
 
 // A whole response is there and SwitchMode is sent: finished (4).
@@ -61,11 +60,10 @@ pub fn switched_step(s: Session, k: usize, table: &[u8], reply: &[u8], out: &[u8
     ensures { Tells outcome_told (outcome result table.now reply.now out.now)
         (switched_step s k table.now reply.now out.now) }
 {
-    let why = guard(s, reply.len() < k, out);
-    if why != 0 {
+    if let Err(why) = guard(s, reply.len() < k, out) {
         return untouched(s, why);
     }
-    moved(s, Phase::Ended(k), 0, Answer::Finished(4, s.reads))
+    moved(s, Phase::Ended(k), 0, Answer::Finished(Finish::Reply, s.reads))
 }
 
 // Bytes of the table; the last of them, and a table without bytes, go on to the regions.
@@ -80,8 +78,7 @@ pub fn table_step(
     ensures { Tells outcome_told (outcome result table.new reply.now out.now)
         (table_step s x delivery.now table.old reply.now out.now) }
 {
-    let why = guard(s, filling_limit(x, table), out);
-    if why != 0 {
+    if let Err(why) = guard(s, filling_limit(x, table), out) {
         return untouched(s, why);
     }
     let declared = x.declared;

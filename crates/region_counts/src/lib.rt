@@ -1,12 +1,13 @@
 // A region's counts: how much the next memory read asks for, what is handed out of the bytes that came, and the number that its end is refused with.
 #![tactic(auto)]
 
-ghost use Rattle.std.specs.Prelude.{◌≡◌, min};
+ghost use Rattle.std.specs.Prelude.{◌≡◌};
 ghost use Rattle.session.specs.RegionPhase.{recounted, asks_for, past_end};
 ghost use Rattle.region_counts.specs.Counts.{handed_by};
 
 use chunk::chunk_size;
 use field::Width;
+use refusal::Refusal;
 use session::Region;
 use verdict::Opening;
 
@@ -17,23 +18,15 @@ pub struct Handed {
     pub left: u64,
 }
 
-fn least(a: u64, b: u64) -> u64
-    ensures { result ≡ min a b }
-{
-    if a < b { a } else { b }
-}
-
 // The region with other counts.
 pub fn recount(x: Region, done: u64, outstanding: u64, due: bool) -> Region
     ensures { result ≡ recounted x done outstanding due }
 {
     Region {
-        entry: x.entry,
-        base: x.base,
-        len: x.len,
         done,
         outstanding,
         due,
+        ..x
     }
 }
 
@@ -44,16 +37,14 @@ pub fn asks_for(opening: Opening, x: Region) -> u64
     if x.len <= x.done {
         return 0;
     }
-    let rest = x.len - x.done;
-    let most = chunk_size(opening) as u64;
-    least(most, rest)
+    (chunk_size(opening) as u64).min(x.len - x.done)
 }
 
 // Of the bytes that came, so many, what is outstanding is handed out.
 pub fn hands_out(x: Region, came: usize) -> Handed
     ensures { result ≡ handed_by x came }
 {
-    let n = least(x.outstanding, came as u64);
+    let n = x.outstanding.min(came as u64);
     let left = x.outstanding - n;
     Handed {
         taken: n as usize,
@@ -62,11 +53,11 @@ pub fn hands_out(x: Region, came: usize) -> Handed
 }
 
 // What a region that ends behind the memory is refused with.
-pub fn past_end(width: Width) -> u8
+pub fn past_end(width: Width) -> Refusal
     ensures { result ≡ past_end width }
 {
     match width {
-        Width::Bits32 => 24,
-        Width::Bits64 => 22,
+        Width::Bits32 => Refusal::RegionEnd32,
+        Width::Bits64 => Refusal::RegionEnd,
     }
 }

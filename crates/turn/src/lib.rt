@@ -1,20 +1,13 @@
 // What a step gives, for every phase alike: its guard, a refusal that touches nothing, and the session in another phase.
 #![tactic(auto)]
 
-ghost use Rattle.std.specs.Prelude.{◌≡◌, min};
+ghost use Rattle.std.specs.Prelude.{◌≡◌};
 ghost use Rattle.session.specs.Outcome.{gives, in_phase};
 ghost use Rattle.turn.specs.Turn.{guard_of};
 
 use limits::reads_limit;
 use refusal::Refusal;
 use session::{Answer, Phase, Session, Stepped};
-
-// The lesser of two.
-pub fn least(a: usize, b: usize) -> usize
-    ensures { result ≡ min a b }
-{
-    if a < b { a } else { b }
-}
 
 // 3, then 18: limited tells that a count of the phase is above its limit.
 #[tactic(auto, unfolding(crate::specs::Turn::guard_of))]

@@ -20,7 +20,6 @@ use Rattle.image.specs.Image.{slot_for, range_in, range_unjudged}
 use Rattle.two_runs.specs.Alike.{shape_in, SameShape, covered_in}
 use Rattle.std.specs.Prelude.{Result, Err, Ok}
 use Rattle.refusal.specs.declared.Refusal.{Refusal}
-use Rattle.refusal.specs.declared.Refusal.TheVariants as Refusal
 
 -- where it starts aside
 abbrev pub range_aside : Result (ℕ × ℕ) Refusal → Result (ℕ × ℕ) Refusal

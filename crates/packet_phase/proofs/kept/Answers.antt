@@ -13,5 +13,5 @@ returns c =
     let a = c.args in
     let x : List ℕ = a.x.now in
     let f : length a.window ≡ 48 = omega (arith, c.well_formed) in
-    let e : c.least-n.result ≡ min (48 - a.held) (length x) = omega arith in
+    let e : c.min-n.result ≡ min (48 - a.held) (length x) = omega arith in
     c.copy_into.ensures ∙ ap (copied a.window a.held x) e ∙ copy_kept a.window f a.held x
