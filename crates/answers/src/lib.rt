@@ -28,15 +28,10 @@ pub fn first_value(a: Answer) -> u64
     ensures { result ≡ get_or (answer_values a) 0 0 }
 {
     match a {
-        Answer::Go => 0,
-        Answer::Send(k) => k as u64,
-        Answer::Image(start, _) => start as u64,
-        Answer::Open(i) => i as u64,
-        Answer::Bytes(k) => k as u64,
-        Answer::EmptyRead => 0,
-        Answer::Close(i) => i as u64,
-        Answer::Finished(how, _) => how as u64,
-        Answer::Refused(why) => why as u64,
+        Answer::Go | Answer::EmptyRead => 0,
+        Answer::Send(k) | Answer::Image(k, _) | Answer::Open(k) | Answer::Bytes(k) | Answer::Close(k) => k as u64,
+        Answer::Finished(how, _) => u8::from(how) as u64,
+        Answer::Refused(why) => u8::from(why) as u64,
     }
 }
 
@@ -45,14 +40,8 @@ pub fn second_value(a: Answer) -> u64
     ensures { result ≡ get_or (answer_values a) 1 0 }
 {
     match a {
-        Answer::Go => 0,
-        Answer::Send(_) => 0,
         Answer::Image(_, k) => k as u64,
-        Answer::Open(_) => 0,
-        Answer::Bytes(_) => 0,
-        Answer::EmptyRead => 0,
-        Answer::Close(_) => 0,
         Answer::Finished(_, reads) => reads,
-        Answer::Refused(_) => 0,
+        _ => 0,
     }
 }

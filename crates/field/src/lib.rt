@@ -6,6 +6,7 @@ ghost use Rattle.std.specs.Prelude.{◌≡◌, ℕ, ◌+◌, ◌≤◌, leb, len
 ghost use Rattle.std.proofs.Common.{rules};
 ghost use Rattle.std.proofs.lemmas.List.Edits.{sets};
 ghost use Rattle.field.specs.Field.{le, le_bytes, field_at, written, put_at, field_size};
+ghost use Rattle.field.specs.Width.{width_number, width_named};
 
 // A number that is a field of SIZE bytes: `of` is the number read, `value` the one written.
 pub trait Number: Copy {
@@ -90,6 +91,35 @@ pub struct Short;
 pub enum Width {
     Bits32,
     Bits64,
+}
+
+// A number of bits is no width's.
+#[derive(Clone, Copy, Debug, PartialEq, Eq)]
+pub struct NoWidth;
+
+impl From<Width> for u64 {
+    ghost from_gives = { λ width n. n ≡ width_number width };
+
+    fn from(width: Width) -> u64 {
+        match width {
+            Width::Bits32 => 32,
+            Width::Bits64 => 64,
+        }
+    }
+}
+
+impl TryFrom<u64> for Width {
+    type Error = NoWidth;
+
+    ghost try_from_gives = { λ n r. r ≡ width_named n };
+
+    fn try_from(n: u64) -> Result<Width, NoWidth> {
+        match n {
+            32 => Ok(Width::Bits32),
+            64 => Ok(Width::Bits64),
+            _ => Err(NoWidth),
+        }
+    }
 }
 
 // So many bytes at a place lie within the first len.

@@ -51,6 +51,7 @@ use Rattle.raw.specs.Raw.{
 }
 use Rattle.raw.specs.declared.Counts.{Counts}
 use Rattle.raw.specs.declared.RawSession.{RawSession}
+use Rattle.refusal.specs.declared.Refusal.{Refusal}
 use Rattle.std.specs.Prelude.{Option, Some, None}
 use Rattle.command.specs.declared.SaharaCmdModeCmd.{SaharaCmdModeCmd}
 
@@ -222,7 +223,7 @@ raw_back r h =
     refl
 
 -- a session's refusal, told: its numbers as they were
-pub refused_told : (r : RawSession) (why : ℕ) → is_session r ≡ true → refused_raw r why ≡ raw_stepped (gives (session_of r) 0 (A.Refused why))
+pub refused_told : (r : RawSession) (why : Refusal) → is_session r ≡ true → refused_raw r why ≡ raw_stepped (gives (session_of r) 0 (A.Refused why))
 unfolding raw_stepped
 refused_told r why e = rw (raw_back r e) refl
 

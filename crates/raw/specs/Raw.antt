@@ -1,17 +1,15 @@
 -- A session, and what a step gives, as plain numbers, as they cross to C and Rust. Document 01, "Session": what it is opened with, the phases and their
 -- counts, "go .. refused". Three laws stand in proofs/Laws: a session's numbers are read back as it, they are a session's, and numbers that are a
 -- session's are those of the session that they are read as.
-use Rattle.std.specs.Prelude.{ℕ, Bool, true, false, ltb, eqb, get_or, replicate, Option, Some, None}
+use Rattle.std.specs.Prelude.{ℕ, Bool, true, false, ltb, eqb, get_or, replicate, is_ok, Option, Some, None, Result, Ok, Err}
 use Rattle.base.specs.Choice.{pick}
+pub use Rattle.field.specs.Width.{width_number}
 use Rattle.field.specs.declared.Width.{Width}
 use Rattle.field.specs.declared.Width.TheVariants as WI
 use Rattle.command.specs.Command.{mode_number, command_number, mode_of, command_of}
 use Rattle.command.specs.declared.SaharaMode.{SaharaMode}
 use Rattle.command.specs.declared.SaharaMode.TheVariants as M
-use Rattle.command.specs.declared.ModeOf.{ModeOf}
-use Rattle.command.specs.declared.ModeOf.TheVariants as MO
-use Rattle.command.specs.declared.CommandOf.{CommandOf}
-use Rattle.command.specs.declared.CommandOf.TheVariants as CO
+pub use Rattle.verdict.specs.Backend.{backend_number}
 use Rattle.verdict.specs.declared.QdlBackend.{QdlBackend}
 use Rattle.verdict.specs.declared.QdlBackend.TheVariants as U
 use Rattle.verdict.specs.declared.Opening.{Opening}
@@ -31,12 +29,9 @@ use Rattle.raw.specs.declared.RawStepped.{RawStepped}
 use Rattle.raw.specs.declared.RawPlaced.{RawPlaced}
 use Rattle.raw.specs.declared.RawTold.{RawTold}
 use Rattle.command.specs.declared.SaharaCmdModeCmd.{SaharaCmdModeCmd}
+use Rattle.refusal.specs.declared.Refusal.{Refusal}
 
 -- ---- "Opened with mode, command or none, backend"
-
-abbrev pub backend_number : QdlBackend → ℕ
-backend_number U.Serial = 0
-backend_number U.Usb = 1
 
 -- none is 2^32 - 1
 abbrev pub exec_number : Option SaharaCmdModeCmd → ℕ
@@ -44,13 +39,13 @@ exec_number (Some c) = command_number c
 exec_number None = 0xFFFFFFFF
 
 -- what a number names; one that names nothing is read as mode 0, as no command, as serial
-abbrev pub mode_in : ModeOf → SaharaMode
-mode_in (MO.Is m) = m
-mode_in MO.Bad = M.WaitingForImage
+abbrev pub mode_in : Result SaharaMode Refusal → SaharaMode
+mode_in (Ok m) = m
+mode_in (Err why) = M.WaitingForImage
 
-abbrev pub exec_in : CommandOf → Option SaharaCmdModeCmd
-exec_in (CO.Is c) = Some c
-exec_in CO.Bad = None
+abbrev pub exec_in : Result SaharaCmdModeCmd Refusal → Option SaharaCmdModeCmd
+exec_in (Ok c) = Some c
+exec_in (Err why) = None
 
 abbrev pub backend_of : ℕ → QdlBackend
 backend_of n = pick (eqb n 1) U.Usb U.Serial
@@ -59,16 +54,12 @@ abbrev pub opening_of : ℕ → ℕ → ℕ → Opening
 opening_of m c b = record { mode = mode_in (mode_of m); command = exec_in (command_of c); backend = backend_of b }
 
 -- the numbers that name something
-abbrev pub mode_named : ModeOf → Bool
-mode_named (MO.Is m) = true
-mode_named MO.Bad = false
-
 abbrev pub is_mode : ℕ → Bool
-is_mode n = mode_named (mode_of n)
+is_mode n = is_ok (mode_of n)
 
-abbrev pub exec_named : ℕ → CommandOf → Bool
-exec_named n (CO.Is c) = true
-exec_named n CO.Bad = eqb n 0xFFFFFFFF
+abbrev pub exec_named : ℕ → Result SaharaCmdModeCmd Refusal → Bool
+exec_named n (Ok c) = true
+exec_named n (Err why) = eqb n 0xFFFFFFFF
 
 abbrev pub is_exec : ℕ → Bool
 is_exec n = exec_named n (command_of n)
@@ -77,10 +68,6 @@ abbrev pub is_opening : ℕ → ℕ → ℕ → Bool
 is_opening m c b = pick (is_mode m) (pick (is_exec c) (ltb b 2) false) false
 
 -- ---- the width of the memory debug that came, in bits (document 02, request 2)
-
-abbrev pub width_number : Width → ℕ
-width_number WI.Bits32 = 32
-width_number WI.Bits64 = 64
 
 -- a number that is no width's is read as 64 bits
 abbrev pub width_of : ℕ → Width
@@ -232,5 +219,5 @@ unfoldable pub raw_stepped : Stepped → RawStepped
 raw_stepped s = stepped_at (raw_of s.session) (told_of s.taken s.answer)
 
 -- refused, the numbers as they were; of a session's it is what the session's own refusal gives (`refused_told` of proofs/Laws)
-abbrev pub refused_raw : RawSession → ℕ → RawStepped
+abbrev pub refused_raw : RawSession → Refusal → RawStepped
 refused_raw r why = stepped_at r (told_of 0 (A.Refused why))

@@ -2,20 +2,11 @@
 #![tactic(auto)]
 
 ghost use Rattle.std.specs.Prelude.{◌≡◌};
-ghost use Rattle.base.specs.Choice.{pick};
 ghost use Rattle.raw.specs.Raw.{
-  backend_number,
   exec_number,
-  mode_in,
-  exec_in,
-  backend_of,
   opening_of,
-  is_mode,
   is_exec,
   is_opening,
-  width_number,
-  width_of,
-  is_width,
   counts,
   counts_of,
   filling_in,
@@ -35,10 +26,11 @@ ghost use Rattle.raw.specs.Raw.{
 };
 
 use answers::{answer_number, first_value, second_value};
-use command::{CommandOf, ModeOf, SaharaMode, command_number, command_of, mode_number, mode_of};
+use command::{SaharaCmdModeCmd, SaharaMode};
 use field::Width;
+use refusal::Refusal;
 use session::{Answer, Filling, Phase, Region, Session, Stepped};
-use verdict::{ExecCommand, Opening, QdlBackend};
+use verdict::{Opening, QdlBackend};
 
 // Numbers that the phase does not use are 0. The width is 32 or 64.
 #[repr(C)]
@@ -92,7 +84,7 @@ pub struct RawPlaced {
 }
 
 // The numbers of a phase.
-#[derive(Clone, Copy)]
+#[derive(Clone, Copy, Default)]
 pub struct Counts {
     pub phase: u32,
     pub count: usize,
@@ -106,80 +98,26 @@ pub struct Counts {
 
 // ---- what a session is opened with
 
-pub fn backend_number(backend: QdlBackend) -> u32
-    ensures { result ≡ backend_number backend }
-{
-    match backend {
-        QdlBackend::Serial => 0,
-        QdlBackend::Usb => 1,
-    }
-}
+// The number of no command.
+const NO_COMMAND: u32 = 0xFFFFFFFF;
 
-pub fn exec_number(command: Option<SaharaCmdModeCmd>) -> u32
+fn exec_number(command: Option<SaharaCmdModeCmd>) -> u32
     ensures { result ≡ exec_number command }
 {
     match command {
         Some(c) => u32::from(c),
-        None => 0xFFFFFFFF,
+        None => NO_COMMAND,
     }
-}
-
-fn mode_in(m: ModeOf) -> SaharaMode
-    ensures { result ≡ mode_in m }
-{
-    match m {
-        Ok(mode) => mode,
-        Err(_) => SaharaMode::WaitingForImage,
-    }
-}
-
-fn exec_in(c: CommandOf) -> Option<SaharaCmdModeCmd>
-    ensures { result ≡ exec_in c }
-{
-    match c {
-        Ok(command) => Some(command),
-        Err(_) => None,
-    }
-}
-
-fn backend_of(n: u32) -> QdlBackend
-    ensures { result ≡ backend_of n }
-{
-    if n == 1 {
-        return QdlBackend::Usb;
-    }
-    QdlBackend::Serial
 }
 
 // The opening that the numbers name.
 pub fn opening_of(mode: u32, command: u32, backend: u32) -> Opening
     ensures { result ≡ opening_of mode command backend }
 {
-    let m = mode_in(SaharaMode::try_from(mode));
-    let c = exec_in(SaharaCmdModeCmd::try_from(command));
-    let b = backend_of(backend);
     Opening {
-        mode: m,
-        command: c,
-        backend: b,
-    }
-}
-
-fn is_mode(mode: u32) -> bool
-    ensures { result ≡ is_mode mode }
-{
-    match SaharaMode::try_from(mode) {
-        Ok(_) => true,
-        Err(_) => false,
-    }
-}
-
-fn is_exec(command: u32) -> bool
-    ensures { result ≡ is_exec command }
-{
-    match SaharaCmdModeCmd::try_from(command) {
-        Ok(_) => true,
-        Err(_) => command == 0xFFFFFFFF,
+        mode: SaharaMode::try_from(mode).unwrap_or(SaharaMode::WaitingForImage),
+        command: SaharaCmdModeCmd::try_from(command).ok(),
+        backend: QdlBackend::try_from(backend).unwrap_or(QdlBackend::Serial),
     }
 }
 
@@ -187,23 +125,20 @@ fn is_exec(command: u32) -> bool
 pub fn is_opening(mode: u32, command: u32, backend: u32) -> bool
     ensures { result ≡ is_opening mode command backend }
 {
-    if !is_mode(mode) {
-        return false;
-    }
-    if !is_exec(command) {
-        return false;
-    }
-    backend < 2
+    SaharaMode::try_from(mode).is_ok()
+        && (SaharaCmdModeCmd::try_from(command).is_ok() || command == NO_COMMAND)
+        && QdlBackend::try_from(backend).is_ok()
 }
 
 // A session just opened, where the numbers name an opening; else what is no session.
+#[tactic(auto, using(crate::proofs::Laws::opened_bare))]
 pub fn opened(mode: u32, command: u32, backend: u32) -> RawSession
     ensures { result ≡ opened_raw mode command backend }
 {
     RawSession {
-        mode: mode,
-        command: command,
-        backend: backend,
+        mode,
+        command,
+        backend,
         phase: 0,
         reads: 0,
         count: 0,
@@ -214,85 +149,46 @@ pub fn opened(mode: u32, command: u32, backend: u32) -> RawSession
         outstanding: 0,
         due: 0,
         width: 64,
-        window: [0u8; 48],
+        window: [0; 48],
     }
-}
-
-// ---- the width
-
-pub fn width_number(width: Width) -> u64
-    ensures { result ≡ width_number width }
-{
-    match width {
-        Width::Bits32 => 32,
-        Width::Bits64 => 64,
-    }
-}
-
-// The width that the number names.
-pub fn width_of(n: u64) -> Width
-    ensures { result ≡ width_of n }
-{
-    if n == 32 {
-        return Width::Bits32;
-    }
-    Width::Bits64
-}
-
-// Whether the number names a width.
-pub fn is_width(n: u64) -> bool
-    ensures { result ≡ is_width n }
-{
-    if n == 32 {
-        return true;
-    }
-    n == 64
 }
 
 // ---- the phase
-
-pub fn bit(b: bool) -> u64
-    ensures { result ≡ pick b 1 0 }
-{
-    if b { 1 } else { 0 }
-}
 
 // A phase with one number, and with two.
 fn counted(phase: u32, count: usize, at: usize) -> Counts
     ensures { result ≡ counts phase count at }
 {
     Counts {
-        phase: phase,
-        count: count,
-        at: at,
-        base: 0,
-        len: 0,
-        done: 0,
-        outstanding: 0,
-        due: 0,
+        phase,
+        count,
+        at,
+        ..Counts::default()
     }
 }
 
-fn counts_of(p: Phase) -> Counts
-    ensures { result ≡ counts_of p }
-{
-    match p {
-        Phase::Packet(held) => counted(0, held, 0),
-        Phase::Response(x) => counted(1, x.declared, x.filled),
-        Phase::Switched(k) => counted(2, k, 0),
-        Phase::Table(x) => counted(3, x.declared, x.filled),
-        Phase::Between(k, i) => counted(4, k, i),
-        Phase::Region(k, x) => Counts {
-            phase: 5,
-            count: k,
-            at: x.entry,
-            base: x.base,
-            len: x.len,
-            done: x.done,
-            outstanding: x.outstanding,
-            due: bit(x.due),
-        },
-        Phase::Ended(k) => counted(6, k, 0),
+impl From<Phase> for Counts {
+    ghost from_gives = { λ p k. k ≡ counts_of p };
+
+    fn from(p: Phase) -> Counts {
+        match p {
+            Phase::Packet(held) => counted(0, held, 0),
+            Phase::Response(x) => counted(1, x.declared, x.filled),
+            Phase::Switched(k) => counted(2, k, 0),
+            Phase::Table(x) => counted(3, x.declared, x.filled),
+            Phase::Between(k, i) => counted(4, k, i),
+            Phase::Region(k, x) => Counts {
+                phase: 5,
+                count: k,
+                at: x.entry,
+                base: x.base,
+                len: x.len,
+                done: x.done,
+                outstanding: x.outstanding,
+                due: u64::from(x.due),
+            },
+            Phase::Ended(k) => counted(6, k, 0),
+        }
     }
 }
 
@@ -318,11 +214,11 @@ fn filling_of(r: RawSession) -> Filling
     }
 }
 
+#[tactic(auto, unfolding(crate::specs::Raw::phase_of))]
 pub fn phase_of(r: RawSession) -> Phase
     ensures { result ≡ phase_of r }
 {
-    let n = r.phase;
-    match n {
+    match r.phase {
         0 => Phase::Packet(r.count),
         1 => Phase::Response(filling_of(r)),
         2 => Phase::Switched(r.count),
@@ -337,43 +233,24 @@ pub fn phase_of(r: RawSession) -> Phase
 fn no_region(r: RawSession) -> bool
     ensures { result ≡ no_region r }
 {
-    if r.base != 0 {
-        return false;
-    }
-    if r.len != 0 {
-        return false;
-    }
-    if r.done != 0 {
-        return false;
-    }
-    if r.outstanding != 0 {
-        return false;
-    }
-    r.due == 0
+    r.base == 0 && r.len == 0 && r.done == 0 && r.outstanding == 0 && r.due == 0
 }
 
 // The place is 0 too.
 fn no_place(r: RawSession) -> bool
     ensures { result ≡ no_place r }
 {
-    if r.at != 0 {
-        return false;
-    }
-    no_region(r)
+    r.at == 0 && no_region(r)
 }
 
+#[tactic(auto, unfolding(crate::specs::Raw::is_phase))]
 fn is_phase(r: RawSession) -> bool
     ensures { result ≡ is_phase r }
 {
-    let n = r.phase;
-    match n {
-        0 => no_place(r),
-        1 => no_region(r),
-        2 => no_place(r),
-        3 => no_region(r),
-        4 => no_region(r),
+    match r.phase {
+        0 | 2 | 6 => no_place(r),
+        1 | 3 | 4 => no_region(r),
         5 => r.due < 2,
-        6 => no_place(r),
         _ => false,
     }
 }
@@ -381,60 +258,50 @@ fn is_phase(r: RawSession) -> bool
 // ---- the session
 
 // Whether the numbers are a session's.
+#[tactic(auto, unfolding(crate::specs::Raw::is_session))]
 pub fn is_session(r: RawSession) -> bool
     ensures { result ≡ is_session r }
 {
-    if !is_opening(r.mode, r.command, r.backend) {
-        return false;
-    }
-    if !is_width(r.width) {
-        return false;
-    }
-    is_phase(r)
+    is_opening(r.mode, r.command, r.backend) && Width::try_from(r.width).is_ok() && is_phase(r)
 }
 
+#[tactic(auto, unfolding(crate::specs::Raw::session_of))]
 pub fn session_of(r: RawSession) -> Session
     ensures { result ≡ session_of r }
 {
     let window = r.window;
-    let opening = opening_of(r.mode, r.command, r.backend);
-    let width = width_of(r.width);
-    let phase = phase_of(r);
     Session {
-        opening: opening,
+        opening: opening_of(r.mode, r.command, r.backend),
         reads: r.reads,
-        width: width,
-        window: window,
-        phase: phase,
+        width: Width::try_from(r.width).unwrap_or(Width::Bits64),
+        window,
+        phase: phase_of(r),
     }
 }
 
-pub fn raw_of(s: Session) -> RawSession
-    ensures { result ≡ raw_of s }
-{
-    let window = s.window;
-    let opening = s.opening;
-    let mode = opening.mode;
-    let command = opening.command;
-    let backend = opening.backend;
-    let width = s.width;
-    let p = s.phase;
-    let k = counts_of(p);
-    RawSession {
-        mode: u32::from(mode),
-        command: exec_number(command),
-        backend: backend_number(backend),
-        phase: k.phase,
-        reads: s.reads,
-        count: k.count,
-        at: k.at,
-        base: k.base,
-        len: k.len,
-        done: k.done,
-        outstanding: k.outstanding,
-        due: k.due,
-        width: width_number(width),
-        window: window,
+impl From<Session> for RawSession {
+    ghost from_gives = { λ s r. r ≡ raw_of s };
+
+    #[tactic(auto, unfolding(crate::specs::Raw::raw_of))]
+    fn from(s: Session) -> RawSession {
+        let window = s.window;
+        let k = Counts::from(s.phase);
+        RawSession {
+            mode: u32::from(s.opening.mode),
+            command: exec_number(s.opening.command),
+            backend: u32::from(s.opening.backend),
+            phase: k.phase,
+            reads: s.reads,
+            count: k.count,
+            at: k.at,
+            base: k.base,
+            len: k.len,
+            done: k.done,
+            outstanding: k.outstanding,
+            due: k.due,
+            width: u64::from(s.width),
+            window,
+        }
     }
 }
 
@@ -464,20 +331,18 @@ pub fn stepped_at(session: RawSession, t: RawTold) -> RawStepped
 }
 
 // What a step gives, as numbers.
-pub fn raw_stepped(s: Stepped) -> RawStepped
-    ensures { result ≡ raw_stepped s }
-{
-    let session = s.session;
-    let answer = s.answer;
-    let raw = raw_of(session);
-    let t = told(s.taken, answer);
-    stepped_at(raw, t)
+impl From<Stepped> for RawStepped {
+    ghost from_gives = { λ s r. r ≡ raw_stepped s };
+
+    #[tactic(auto, unfolding(crate::specs::Raw::raw_stepped))]
+    fn from(s: Stepped) -> RawStepped {
+        stepped_at(RawSession::from(s.session), told(s.taken, s.answer))
+    }
 }
 
 // Refused, the numbers as they were.
 pub fn refused(r: RawSession, why: Refusal) -> RawStepped
     ensures { result ≡ refused_raw r why }
 {
-    let t = told(0, Answer::Refused(why));
-    stepped_at(r, t)
+    stepped_at(r, told(0, Answer::Refused(why)))
 }

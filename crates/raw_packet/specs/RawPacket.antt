@@ -9,6 +9,7 @@ use Rattle.packet.specs.Told.{unk_from, body_values}
 use Rattle.packet.specs.declared.Unk.{Unk}
 use Rattle.packet.specs.declared.SaharaPacketBody.{SaharaPacketBody}
 use Rattle.raw_packet.specs.declared.RawPacket.{RawPacket}
+use Rattle.refusal.specs.Refusal.{refusal_number}
 use Rattle.refusal.specs.declared.Refusal.{Refusal}
 use Rattle.packet.specs.declared.SaharaPacket.{SaharaPacket}
 
@@ -67,10 +68,10 @@ places_of K.ReadData64 = plain_places
 abbrev pub body_packet : ℕ → SaharaPacketBody → RawPacket
 body_packet len b = places_of (kind_in b) (kind_number (kind_in b)) len (body_values b)
 
-abbrev pub refused_packet : ℕ → RawPacket
+abbrev pub refused_packet : Refusal → RawPacket
 refused_packet why =
     record {
-      refused = why;
+      refused = refusal_number why;
       command = 0;
       len = 0;
       value = 0;

@@ -2,14 +2,15 @@
 #![tactic(auto)]
 
 ghost use Rattle.std.specs.Prelude.{◌≡◌};
-ghost use Rattle.command.specs.Command.{mode_number, command_number};
+ghost use Rattle.command.specs.Command.{mode_number, command_number, kind_number};
 ghost use Rattle.raw_packet.specs.RawPacket.{refused_packet, plain_packet, hello_packet, body_packet, raw_packet};
 
-use command::{SaharaCmdModeCmd, SaharaMode, command_number, mode_number};
-use packet::{Decoded, SaharaPacketBody, Unk};
+use command::{SaharaCmd, SaharaCmdModeCmd, SaharaMode};
+use packet::{SaharaPacket, SaharaPacketBody, Unk};
+use refusal::Refusal;
 
 #[repr(C)]
-#[derive(Clone, Copy)]
+#[derive(Clone, Copy, Default)]
 pub struct RawPacket {
     pub refused: u32,
     pub command: u32,
@@ -26,30 +27,40 @@ pub struct RawPacket {
     pub unk5: u32,
 }
 
-// A packet that is no hello.
-fn plain(command: u32, len: u32, value: u32, first: u64, second: u64, third: u64) -> RawPacket
-    ensures { result ≡ plain_packet command len value first second third }
+// A packet whose body is three longs at most.
+fn longs(kind: SaharaCmd, len: u32, first: u64, second: u64, third: u64) -> RawPacket
+    ensures { result ≡ plain_packet (kind_number kind) len 0 first second third }
 {
     RawPacket {
-        refused: 0,
-        command: command,
-        len: len,
-        value: value,
-        first: first,
-        second: second,
-        third: third,
-        unk0: 0,
-        unk1: 0,
-        unk2: 0,
-        unk3: 0,
-        unk4: 0,
-        unk5: 0,
+        command: u32::from(kind),
+        len,
+        first,
+        second,
+        third,
+        ..RawPacket::default()
+    }
+}
+
+// Three words at most.
+fn words(kind: SaharaCmd, len: u32, first: u32, second: u32, third: u32) -> RawPacket
+    ensures { result ≡ plain_packet (kind_number kind) len 0 first second third }
+{
+    longs(kind, len, first as u64, second as u64, third as u64)
+}
+
+// A command and a word.
+fn execute(kind: SaharaCmd, len: u32, command: SaharaCmdModeCmd, first: u32) -> RawPacket
+    ensures { result ≡ plain_packet (kind_number kind) len (command_number command) first 0 0 }
+{
+    RawPacket {
+        value: u32::from(command),
+        ..words(kind, len, first, 0, 0)
     }
 }
 
 // Three words, the mode and the unused words of a hello.
 fn hello(
-    command: u32,
+    kind: SaharaCmd,
     len: u32,
     mode: SaharaMode,
     first: u32,
@@ -57,103 +68,91 @@ fn hello(
     third: u32,
     unk: Unk,
 ) -> RawPacket
-    ensures { result ≡ hello_packet command len (mode_number mode) first second third unk }
+    ensures { result ≡ hello_packet (kind_number kind) len (mode_number mode) first second third unk }
 {
     RawPacket {
-        refused: 0,
-        command: command,
-        len: len,
         value: u32::from(mode),
-        first: first as u64,
-        second: second as u64,
-        third: third as u64,
         unk0: unk.unk0,
         unk1: unk.unk1,
         unk2: unk.unk2,
         unk3: unk.unk3,
         unk4: unk.unk4,
         unk5: unk.unk5,
+        ..words(kind, len, first, second, third)
     }
 }
 
-// A packet whose body is three words at most.
-fn words(command: u32, len: u32, first: u32, second: u32, third: u32) -> RawPacket
-    ensures { result ≡ plain_packet command len 0 first second third }
-{
-    plain(command, len, 0, first as u64, second as u64, third as u64)
-}
+impl From<SaharaPacket> for RawPacket {
+    ghost from_gives = { λ p r. r ≡ body_packet p.len p.body };
 
-// A packet whose body begins with a command.
-fn execute(kind: u32, len: u32, command: SaharaCmdModeCmd, first: u32) -> RawPacket
-    ensures { result ≡ plain_packet kind len (command_number command) first 0 0 }
-{
-    plain(kind, len, u32::from(command), first as u64, 0, 0)
-}
-
-fn body_packet(len: u32, body: SaharaPacketBody) -> RawPacket
-    ensures { result ≡ body_packet len body }
-{
-    match body {
-        SaharaPacketBody::HelloReq(b) => {
-            let mode = b.mode;
-            let unk = b.unk;
-            hello(1, len, mode, b.ver, b.compatible, b.max_len, unk)
+    fn from(p: SaharaPacket) -> RawPacket {
+        let len = p.len;
+        match p.body {
+            SaharaPacketBody::HelloReq(b) => hello(
+                SaharaCmd::Hello,
+                len,
+                b.mode,
+                b.ver,
+                b.compatible,
+                b.max_len,
+                b.unk,
+            ),
+            SaharaPacketBody::HelloResp(b) => hello(
+                SaharaCmd::HelloResp,
+                len,
+                b.mode,
+                b.ver,
+                b.compatible,
+                b.status,
+                b.unk,
+            ),
+            SaharaPacketBody::ReadReq(b) => words(
+                SaharaCmd::ReadData,
+                len,
+                b.image,
+                b.offset,
+                b.len,
+            ),
+            SaharaPacketBody::Eoi(b) => words(SaharaCmd::EndOfImage, len, b.image, b.status, 0),
+            SaharaPacketBody::DoneReq => words(SaharaCmd::Done, len, 0, 0, 0),
+            SaharaPacketBody::DoneResp(b) => words(SaharaCmd::DoneResp, len, b.status, 0, 0),
+            SaharaPacketBody::ResetResp => words(SaharaCmd::ResetResp, len, 0, 0, 0),
+            SaharaPacketBody::DebugReq(b) => words(SaharaCmd::MemDebug, len, b.addr, b.len, 0),
+            SaharaPacketBody::ReadMemReq(b) => words(SaharaCmd::MemRead, len, b.addr, b.len, 0),
+            SaharaPacketBody::CommandReady => words(SaharaCmd::CommandReady, len, 0, 0, 0),
+            SaharaPacketBody::ExecResp(b) => execute(SaharaCmd::ExecuteResp, len, b.command, b.len),
+            SaharaPacketBody::ExecData(b) => execute(SaharaCmd::ExecuteData, len, b.command, 0),
+            SaharaPacketBody::Debug64Req(b) => longs(SaharaCmd::MemDebug64, len, b.addr, b.len, 0),
+            SaharaPacketBody::ReadMem64Req(b) => longs(SaharaCmd::MemRead64, len, b.addr, b.len, 0),
+            SaharaPacketBody::ReadData64Req(b) => longs(
+                SaharaCmd::ReadData64,
+                len,
+                b.image,
+                b.offset,
+                b.len,
+            ),
         }
-        SaharaPacketBody::HelloResp(b) => {
-            let mode = b.mode;
-            let unk = b.unk;
-            hello(2, len, mode, b.ver, b.compatible, b.status, unk)
-        }
-        SaharaPacketBody::ReadReq(b) => words(3, len, b.image, b.offset, b.len),
-        SaharaPacketBody::Eoi(b) => words(4, len, b.image, b.status, 0),
-        SaharaPacketBody::DoneReq => words(5, len, 0, 0, 0),
-        SaharaPacketBody::DoneResp(b) => words(6, len, b.status, 0, 0),
-        SaharaPacketBody::ResetResp => words(8, len, 0, 0, 0),
-        SaharaPacketBody::CommandReady => words(0x0b, len, 0, 0, 0),
-        SaharaPacketBody::ExecResp(b) => {
-            let command = b.command;
-            execute(0x0e, len, command, b.len)
-        }
-        SaharaPacketBody::ExecData(b) => {
-            let command = b.command;
-            execute(0x0f, len, command, 0)
-        }
-        SaharaPacketBody::Debug64Req(b) => plain(0x10, len, 0, b.addr, b.len, 0),
-        SaharaPacketBody::ReadMem64Req(b) => plain(0x11, len, 0, b.addr, b.len, 0),
-        SaharaPacketBody::ReadData64Req(b) => plain(0x12, len, 0, b.image, b.offset, b.len),
-        SaharaPacketBody::DebugReq(b) => words(9, len, b.addr, b.len, 0),
-        SaharaPacketBody::ReadMemReq(b) => words(0x0a, len, b.addr, b.len, 0),
     }
 }
 
-fn refused(why: Refusal) -> RawPacket
-    ensures { result ≡ refused_packet why }
-{
-    RawPacket {
-        refused: why as u32,
-        command: 0,
-        len: 0,
-        value: 0,
-        first: 0,
-        second: 0,
-        third: 0,
-        unk0: 0,
-        unk1: 0,
-        unk2: 0,
-        unk3: 0,
-        unk4: 0,
-        unk5: 0,
+impl From<Refusal> for RawPacket {
+    ghost from_gives = { λ why r. r ≡ refused_packet why };
+
+    fn from(why: Refusal) -> RawPacket {
+        RawPacket {
+            refused: u8::from(why) as u32,
+            ..RawPacket::default()
+        }
     }
 }
 
-pub fn raw_packet(d: Result<SaharaPacket, Refusal>) -> RawPacket
-    ensures { result ≡ raw_packet d }
-{
-    match d {
-        Ok(p) => {
-            let body = p.body;
-            body_packet(p.len, body)
+impl From<Result<SaharaPacket, Refusal>> for RawPacket {
+    ghost from_gives = { λ d r. r ≡ raw_packet d };
+
+    fn from(d: Result<SaharaPacket, Refusal>) -> RawPacket {
+        match d {
+            Ok(p) => RawPacket::from(p),
+            Err(why) => RawPacket::from(why),
         }
-        Err(why) => refused(why),
     }
 }

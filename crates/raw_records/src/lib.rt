@@ -3,16 +3,11 @@
 #![tactic(auto)]
 
 ghost use Rattle.std.specs.Prelude.{◌≡◌};
-ghost use Rattle.base.specs.Choice.{pick};
-ghost use Rattle.raw_records.specs.Records.{raw_entry, raw_range, raw_sheet, raw_forecast, raw_tidied, checked_number, built_number};
+ghost use Rattle.raw_records.specs.Records.{refused_number, raw_entry, raw_range, raw_sheet, raw_forecast, raw_tidied};
 
-use build::Built;
-use bundle::Checked;
-use entry::EntryAt;
-use forecast_sums::Foreseen;
-use image::ImageRange;
-use sheet::Sheet;
-use tidied::Tidied;
+use entry::RamdumpTable64;
+use forecast_sums::Forecast;
+use refusal::Refusal;
 
 #[repr(C)]
 #[derive(Clone, Copy)]
@@ -56,107 +51,96 @@ pub struct RawTidied {
     pub refused: u32,
 }
 
-fn bit(b: bool) -> u32
-    ensures { result ≡ pick b 1 0 }
+// 0 where something is there, else the refusal.
+pub fn refused_number<A: Drop>(x: Result<A, Refusal>) -> u32
+    ensures { result ≡ refused_number x }
 {
-    if b { 1 } else { 0 }
-}
-
-pub fn raw_entry(e: EntryAt) -> RawEntry
-    ensures { result ≡ raw_entry e }
-{
-    let x = e.entry;
-    let description = x.description;
-    let filename = x.filename;
-    RawEntry {
-        save_pref: x.save_pref,
-        base: x.base,
-        len: x.len,
-        description: description,
-        filename: filename,
-        there: bit(e.there),
+    match x {
+        Ok(_) => 0,
+        Err(why) => u8::from(why) as u32,
     }
 }
 
-pub fn raw_range(x: Result<(usize, usize), Refusal>) -> RawRange
-    ensures { result ≡ raw_range x }
-{
-    match x {
-        Ok((start, len)) => RawRange {
-            start: start,
-            len: len,
-            refused: 0,
-        },
-        Err(why) => RawRange {
-            start: 0,
-            len: 0,
-            refused: why as u32,
-        },
+impl From<Option<RamdumpTable64>> for RawEntry {
+    ghost from_gives = { λ e r. r ≡ raw_entry e };
+
+    fn from(e: Option<RamdumpTable64>) -> RawEntry {
+        match e {
+            Some(e) => {
+                let description = e.description;
+                let filename = e.filename;
+                RawEntry {
+                    save_pref: e.save_pref,
+                    base: e.base,
+                    len: e.len,
+                    description,
+                    filename,
+                    there: 1,
+                }
+            }
+            None => RawEntry {
+                save_pref: 0,
+                base: 0,
+                len: 0,
+                description: [0; 20],
+                filename: [0; 20],
+                there: 0,
+            },
+        }
     }
 }
 
-pub fn raw_sheet(x: Result<usize, Refusal>) -> RawSheet
-    ensures { result ≡ raw_sheet x }
-{
-    match x {
-        Ok(k) => RawSheet {
-            written: k,
-            refused: 0,
-        },
-        Err(why) => RawSheet {
-            written: 0,
-            refused: why as u32,
-        },
+impl From<Result<(usize, usize), Refusal>> for RawRange {
+    ghost from_gives = { λ x r. r ≡ raw_range x };
+
+    fn from(x: Result<(usize, usize), Refusal>) -> RawRange {
+        let refused = refused_number(x);
+        let (start, len) = x.unwrap_or_default();
+        RawRange {
+            start,
+            len,
+            refused,
+        }
     }
 }
 
-pub fn raw_forecast(x: Foreseen) -> RawForecast
-    ensures { result ≡ raw_forecast x }
-{
-    match x {
-        Foreseen::Needs(regions, bytes, reads) => RawForecast {
-            regions: regions,
-            bytes: bytes,
-            reads: reads,
-            refused: 0,
-        },
-        Foreseen::Refused(why) => RawForecast {
+impl From<Result<usize, Refusal>> for RawSheet {
+    ghost from_gives = { λ x r. r ≡ raw_sheet x };
+
+    fn from(x: Result<usize, Refusal>) -> RawSheet {
+        RawSheet {
+            written: x.unwrap_or_default(),
+            refused: refused_number(x),
+        }
+    }
+}
+
+impl From<Result<Forecast, Refusal>> for RawForecast {
+    ghost from_gives = { λ x r. r ≡ raw_forecast x };
+
+    fn from(x: Result<Forecast, Refusal>) -> RawForecast {
+        let refused = refused_number(x);
+        let f = x.unwrap_or(Forecast {
             regions: 0,
             bytes: 0,
             reads: 0,
-            refused: why as u32,
-        },
+        });
+        RawForecast {
+            regions: f.regions,
+            bytes: f.bytes,
+            reads: f.reads,
+            refused,
+        }
     }
 }
 
-pub fn raw_tidied(x: Result<usize, Refusal>) -> RawTidied
-    ensures { result ≡ raw_tidied x }
-{
-    match x {
-        Ok(k) => RawTidied { len: k, refused: 0 },
-        Err(why) => RawTidied {
-            len: 0,
-            refused: why as u32,
-        },
-    }
-}
+impl From<Result<usize, Refusal>> for RawTidied {
+    ghost from_gives = { λ x r. r ≡ raw_tidied x };
 
-// 0 where it is good, else the refusal.
-pub fn checked_number(c: Result<(), Refusal>) -> u32
-    ensures { result ≡ checked_number c }
-{
-    match c {
-        Ok(()) => 0,
-        Err(why) => why as u32,
-    }
-}
-
-// 0 where the packet is built, else the refusal.
-pub fn built_number(b: Result<usize, Refusal>) -> u32
-    ensures { result ≡ built_number b }
-{
-    match b {
-        Ok(_) => 0,
-        Err(why) => why as u32,
+    fn from(x: Result<usize, Refusal>) -> RawTidied {
+        RawTidied {
+            len: x.unwrap_or_default(),
+            refused: refused_number(x),
+        }
     }
 }

@@ -1,2 +1,3 @@
+pub mod Backend
 pub mod Opening
 pub mod Verdict

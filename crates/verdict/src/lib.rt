@@ -3,6 +3,7 @@
 
 ghost use Rattle.std.specs.Prelude.{◌≡◌};
 ghost use Rattle.image.specs.Image.{range_unjudged};
+ghost use Rattle.verdict.specs.Backend.{backend_number, backend_named};
 ghost use Rattle.verdict.specs.Verdict.{
   finish_number,
   exactly,
@@ -24,6 +25,35 @@ use refusal::Refusal;
 pub enum QdlBackend {
     Serial,
     Usb,
+}
+
+// A number is no backend's.
+#[derive(Clone, Copy, Debug, PartialEq, Eq)]
+pub struct NoBackend;
+
+impl From<QdlBackend> for u32 {
+    ghost from_gives = { λ backend n. n ≡ backend_number backend };
+
+    fn from(backend: QdlBackend) -> u32 {
+        match backend {
+            QdlBackend::Serial => 0,
+            QdlBackend::Usb => 1,
+        }
+    }
+}
+
+impl TryFrom<u32> for QdlBackend {
+    type Error = NoBackend;
+
+    ghost try_from_gives = { λ n r. r ≡ backend_named n };
+
+    fn try_from(n: u32) -> Result<QdlBackend, NoBackend> {
+        match n {
+            0 => Ok(QdlBackend::Serial),
+            1 => Ok(QdlBackend::Usb),
+            _ => Err(NoBackend),
+        }
+    }
 }
 
 // How a session finishes: the device has its images, it resets itself, its memory is dumped, its reply is there.
