@@ -1,23 +1,18 @@
 // Reads standard input as deliveries of 4,096 bytes, each used up before the next is read, and prints a line a step: bytes taken, answer, number.
 #![tactic(auto)]
 
-ghost use Rattle.std.specs.Prelude.{◌≡◌, ◌≤◌, length, IfOk};
+ghost use Rattle.std.specs.Prelude.{◌≡◌, ◌≤◌, length, vec_len, IfOk};
 
 use command::SaharaMode;
 use feed::{Feed, Turned};
-use session::{Answer, Session};
+use session::{Answer, Session, Stepped};
+use std::alloc::{AllocError, Global};
 use std::io;
 use std::io::Read;
 use verdict::{ExecCommand, QdlBackend};
 
-// A line.
-fn line(rt: &impl Print, taken: usize, word: &str, number: u64) -> io::Result<()> {
-    println!(rt; "{taken} {word} {number}")
-}
-
 // Prints a step; true where the session goes on.
 fn told(rt: &impl Print, taken: usize, a: Answer) -> io::Result<bool> {
-    let n = answers::first_value(a);
     let (word, more) = match a {
         Answer::Go => ("go", true),
         Answer::Send(_) => ("send", true),
@@ -29,34 +24,39 @@ fn told(rt: &impl Print, taken: usize, a: Answer) -> io::Result<bool> {
         Answer::Finished(_, _) => ("finished", false),
         Answer::Refused(_) => ("refused", false),
     };
-    line(rt, taken, word, n)?;
+    let number = answers::first_value(a);
+    println!(rt; "{taken} {word} {number}")?;
     Ok(more)
 }
 
-// Reads until the buffer is full or the input ends: how many bytes it put at the front.
-fn read_full<R: Read>(input: &mut R, buf: &mut [u8]) -> io::Result<usize>
-    ensures { IfOk result (λ n. n ≤ length buf.new) }
-{
-    let mut done = 0;
-    while done < buf.len() {
-        let n = input.read(&mut buf[done..])?;
-        if n == 0 {
-            break;
-        }
-        done += n;
+// What a step writes to.
+#[derive(Drop)]
+struct Buffers {
+    table: Vec<u8>,
+    reply: Vec<u8>,
+    out: Vec<u8>,
+}
+
+impl Buffers {
+    fn new(alloc: Global) -> Result<Buffers, AllocError> {
+        Ok(Buffers {
+            table: vec![in alloc; 0; 65536]?,
+            reply: vec![in alloc; 0; 4096]?,
+            out: vec![in alloc; 0; 48]?,
+        })
     }
-    Ok(done)
 }
 
 // The next delivery, where this one is used up.
-fn refill<R: Read>(input: &mut R, delivery: &mut [u8], f: Feed) -> io::Result<Feed>
-    requires { (f.from ≤ f.to) × (f.to ≤ length delivery.old) }
-    ensures { IfOk result (λ r. (r.from ≤ r.to) × (r.to ≤ length delivery.new)) }
+fn refill<R: Read>(input: &mut R, delivery: &mut Vec<u8>, f: Feed) -> io::Result<Feed>
+    requires { (f.from ≤ f.to) × (f.to ≤ vec_len delivery.old) }
+    ensures { IfOk result (λ r. (r.from ≤ r.to) × (r.to ≤ vec_len delivery.new)) }
 {
     if !feed::is_due(f) {
         return Ok(f);
     }
-    let n = read_full(input, delivery)?;
+    delivery.clear();
+    let n = input.take(4096).read_to_end(delivery)?;
     Ok(Feed {
         from: 0,
         to: n,
@@ -64,17 +64,17 @@ fn refill<R: Read>(input: &mut R, delivery: &mut [u8], f: Feed) -> io::Result<Fe
     })
 }
 
-fn closed(rt: &impl Print, s: Session, f: Feed) -> io::Result<Turned>
-    ensures { IfOk result (λ r. (r.feed.from ≡ f.from) × (r.feed.to ≡ f.to)) }
+// The step, unless the input is over and it would wait: then the channel is closed.
+fn step_or_close(s: Session, f: Feed, delivery: &[u8], buffers: &mut Buffers) -> Stepped
+    requires { (f.from ≤ f.to) × (f.to ≤ length delivery.now) }
 {
-    let r = host::closed(s);
-    let a = r.answer;
-    told(rt, 0, a)?;
-    Ok(Turned {
-        session: s,
-        feed: f,
-        more: false,
-    })
+    if feed::closes(f, s) {
+        return host::closed(s);
+    }
+    let none = b"\0\0\0\0\0\0\0\0";
+    let left = &delivery[f.from..f.to];
+    let Buffers { table, reply, out } = buffers;
+    host::step(s, left, none, none, table, reply, out)
 }
 
 fn turn(
@@ -82,17 +82,12 @@ fn turn(
     s: Session,
     f: Feed,
     delivery: &[u8],
-    table: &mut [u8],
-    reply: &mut [u8],
-    out: &mut [u8],
+    buffers: &mut Buffers,
 ) -> io::Result<Turned>
     requires { (f.from ≤ f.to) × (f.to ≤ length delivery.now) }
     ensures { IfOk result (λ r. (r.feed.from ≤ r.feed.to) × (r.feed.to ≡ f.to)) }
 {
-    let from = f.from;
-    let to = f.to;
-    let none = b"\0\0\0\0\0\0\0\0";
-    let r = host::step(s, &delivery[from..to], none, none, table, reply, out);
+    let r = step_or_close(s, f, delivery, buffers);
     let next = r.session;
     let a = r.answer;
     let left = feed::left_after(f, r.taken);
@@ -100,37 +95,13 @@ fn turn(
     Ok(Turned {
         session: next,
         feed: left,
-        more: more,
+        more,
     })
 }
 
-// The step, unless the input is over and it would wait.
-fn turn_or_close(
-    rt: &impl Print,
-    s: Session,
-    f: Feed,
-    delivery: &[u8],
-    table: &mut [u8],
-    reply: &mut [u8],
-    out: &mut [u8],
-) -> io::Result<Turned>
-    requires { (f.from ≤ f.to) × (f.to ≤ length delivery.now) }
-    ensures { IfOk result (λ r. (r.feed.from ≤ r.feed.to) × (r.feed.to ≡ f.to)) }
-{
-    if feed::closes(f, s) {
-        return closed(rt, s, f);
-    }
-    turn(rt, s, f, delivery, table, reply, out)
-}
-
-fn run<R: Read>(
-    rt: &impl Print,
-    input: &mut R,
-    delivery: &mut [u8],
-    table: &mut [u8],
-    reply: &mut [u8],
-    out: &mut [u8],
-) -> io::Result<()> {
+fn run<R: Read>(rt: &impl Print, alloc: Global, input: &mut R) -> io::Result<()> {
+    let mut delivery = Vec::new(alloc);
+    let mut buffers = Buffers::new(alloc)?;
     let mut s = host::open(
         SaharaMode::WaitingForImage,
         None,
@@ -138,8 +109,8 @@ fn run<R: Read>(
     );
     let mut f = feed::begin();
     for _ in 0..u64::MAX {
-        let fed = refill(input, delivery, f)?;
-        let t = turn_or_close(rt, s, fed, delivery, table, reply, out)?;
+        let fed = refill(input, &mut delivery, f)?;
+        let t = turn(rt, s, fed, &delivery, &mut buffers)?;
         if !t.more {
             return Ok(());
         }
@@ -150,17 +121,5 @@ fn run<R: Read>(
 }
 
 fn main(rt: HostRuntime) -> io::Result<()> {
-    let mut input = rt.stdin();
-    let mut delivery = [0u8; 4096];
-    let mut table = [0u8; 65536];
-    let mut reply = [0u8; 4096];
-    let mut out = [0u8; 48];
-    run(
-        &rt,
-        &mut input,
-        &mut delivery,
-        &mut table,
-        &mut reply,
-        &mut out,
-    )
+    run(&rt, rt.alloc(), &mut rt.stdin())
 }

@@ -6,7 +6,6 @@ ghost use Rattle.std.specs.Prelude.{◌≡◌, false, ◌+◌, min};
 ghost use Rattle.feed.specs.Feed.{due_at, closes_at};
 
 use session::Session;
-use turn::least;
 
 // A delivery, from..to of a buffer, and whether the bytes are over.
 #[derive(Clone, Copy)]
@@ -39,19 +38,9 @@ pub fn begin() -> Feed
 pub fn left_after(f: Feed, taken: usize) -> Feed
     ensures { (result.from ≡ min (f.from + taken) f.to) × (result.to ≡ f.to) × (result.over ≡ f.over) }
 {
-    let from = f.from;
-    let to = f.to;
-    if to < from {
-        return Feed {
-            from: to,
-            to: to,
-            over: f.over,
-        };
-    }
     Feed {
-        from: from + least(taken, to - from),
-        to: to,
-        over: f.over,
+        from: f.from.saturating_add(taken).min(f.to),
+        ..f
     }
 }
 
@@ -59,18 +48,12 @@ pub fn left_after(f: Feed, taken: usize) -> Feed
 pub fn is_due(f: Feed) -> bool
     ensures { result ≡ due_at f }
 {
-    if f.from < f.to {
-        return false;
-    }
-    !f.over
+    f.to <= f.from && !f.over
 }
 
 // The channel is closed in place of a step: the bytes are over and the step would wait.
 pub fn closes(f: Feed, s: Session) -> bool
     ensures { result ≡ closes_at f s }
 {
-    if f.over {
-        return waiting::needs_bytes(s);
-    }
-    false
+    f.over && waiting::needs_bytes(s)
 }

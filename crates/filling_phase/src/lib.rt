@@ -3,6 +3,7 @@
 
 ghost use Rattle.std.specs.Prelude.{◌≡◌, ◌-◌, ◌≤◌, min, length};
 ghost use Rattle.std.proofs.Math.Seq.{paste};
+ghost use Rattle.build.specs.Build.{front};
 ghost use Rattle.base.specs.Told.{Tells};
 ghost use Rattle.session.specs.Answers.{outcome_told};
 ghost use Rattle.session.specs.Outcome.{outcome};
@@ -26,7 +27,24 @@ fn fill(x: Filling, buffer: &mut [u8], delivery: &[u8]) -> usize
     n
 }
 
+// SwitchMode, built: how many bytes are to be sent.
+#[tactic(auto, using(build::proofs::Laws::build_long))]
+fn switch_mode(out: &mut [u8]) -> usize
+    requires { 48 ≤ length out.old }
+    ensures { (result ≡ 12) × (out.new ≡ front Request.SwitchMode out.old) }
+{
+    build(out, Request::SwitchMode).unwrap()
+}
+
 // Bytes of the response; with the last of them, and for a response without bytes, SwitchMode is sent.
+#[tactic(
+    auto,
+    unfolding(
+        session::specs::Guard::response_step,
+        session::specs::FillingPhase::response_of,
+        turn::specs::Turn::guard_of
+    )
+)]
 pub fn response_step(
     s: Session,
     x: Filling,
@@ -51,11 +69,19 @@ pub fn response_step(
         };
         return moved(s, Phase::Response(next), n, Answer::Go);
     }
-    let k = build(out, Request::SwitchMode).unwrap();
+    let k = switch_mode(out);
     moved(s, Phase::Switched(declared), n, Answer::Send(k))
 }
 
 // A whole response is there and SwitchMode is sent: finished (4).
+#[tactic(
+    auto,
+    unfolding(
+        session::specs::Guard::switched_step,
+        session::specs::FillingPhase::switched_of,
+        turn::specs::Turn::guard_of
+    )
+)]
 pub fn switched_step(s: Session, k: usize, table: &[u8], reply: &[u8], out: &[u8]) -> Stepped
     ensures { Tells outcome_told (outcome result table.now reply.now out.now)
         (switched_step s k table.now reply.now out.now) }
@@ -67,6 +93,14 @@ pub fn switched_step(s: Session, k: usize, table: &[u8], reply: &[u8], out: &[u8
 }
 
 // Bytes of the table; the last of them, and a table without bytes, go on to the regions.
+#[tactic(
+    auto,
+    unfolding(
+        session::specs::Guard::table_step,
+        session::specs::FillingPhase::table_of,
+        turn::specs::Turn::guard_of
+    )
+)]
 pub fn table_step(
     s: Session,
     x: Filling,

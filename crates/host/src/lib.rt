@@ -4,21 +4,22 @@
 ghost use Rattle.std.specs.Prelude.{◌≡◌};
 ghost use Rattle.base.specs.Told.{Tells};
 ghost use Rattle.session.specs.Answers.{stepped_told, outcome_told};
-ghost use Rattle.session.specs.Outcome.{opened_with, outcome, is_ended};
+ghost use Rattle.session.specs.Outcome.{opened_with, outcome};
 ghost use Rattle.session.specs.Guard.{phase_step};
 ghost use Rattle.session.specs.Step.{step_of, closed_of};
 ghost use Rattle.host.specs.Host.{opening};
 
 use between_phase::between_step;
-use bundle::{Checked, check_images, check_names};
-use command::SaharaMode;
+use bundle::{check_images, check_names};
+use command::{SaharaCmdModeCmd, SaharaMode};
 use field::Width;
 use filling_phase::{response_step, switched_step, table_step};
 use packet_phase::packet_step;
+use refusal::Refusal;
 use region_phase::region_step;
 use session::{Answer, Phase, Session, Stepped};
 use turn::{moved, untouched};
-use verdict::{ExecCommand, Opening, QdlBackend};
+use verdict::{Opening, QdlBackend};
 
 // A session, opened with a mode, a command or none, and a backend.
 pub fn open(mode: SaharaMode, command: Option<SaharaCmdModeCmd>, backend: QdlBackend) -> Session
@@ -26,9 +27,9 @@ pub fn open(mode: SaharaMode, command: Option<SaharaCmdModeCmd>, backend: QdlBac
 {
     Session {
         opening: Opening {
-            mode: mode,
-            command: command,
-            backend: backend,
+            mode,
+            command,
+            backend,
         },
         reads: 0,
         width: Width::Bits64,
@@ -68,6 +69,11 @@ pub fn phase_step(
 }
 
 // One step: a delivery, the image set and the names, and the table, reply and out buffers.
+#[tactic(
+    auto,
+    using(session::proofs::Parts::step_phase),
+    unfolding(session::specs::Step::step_of)
+)]
 pub fn step(
     s: Session,
     delivery: &[u8],
@@ -80,36 +86,20 @@ pub fn step(
     ensures { Tells outcome_told (outcome result table.new reply.new out.new)
         (step_of s delivery.now set.now names.now table.old reply.old out.old) }
 {
-    let Ok(()) = check_images(set) else {
-        return untouched(s, Refusal::ImageSet);
-    };
-    let Ok(()) = check_names(names) else {
-        return untouched(s, Refusal::NameList);
-    };
-    let p = s.phase;
-    phase_step(s, p, delivery, set, names, table, reply, out)
-}
-
-fn is_ended(p: Phase) -> bool
-    ensures { result ≡ is_ended p }
-{
-    match p {
-        Phase::Packet(_) => false,
-        Phase::Response(_) => false,
-        Phase::Switched(_) => false,
-        Phase::Table(_) => false,
-        Phase::Between(_, _) => false,
-        Phase::Region(_, _) => false,
-        Phase::Ended(_) => true,
+    if let Err(why) = check_images(set) {
+        return untouched(s, why);
     }
+    if let Err(why) = check_names(names) {
+        return untouched(s, why);
+    }
+    phase_step(s, s.phase, delivery, set, names, table, reply, out)
 }
 
 // The channel was closed.
 pub fn closed(s: Session) -> Stepped
     ensures { Tells stepped_told result (closed_of s) }
 {
-    let p = s.phase;
-    if is_ended(p) {
+    if let Phase::Ended(_) = s.phase {
         return untouched(s, Refusal::Ended);
     }
     moved(s, Phase::Ended(0), 0, Answer::Refused(Refusal::Closed))

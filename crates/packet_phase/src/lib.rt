@@ -52,6 +52,7 @@ fn holds(s: Session, held: usize, w: [u8; 48], taken: usize, answer: Answer) -> 
 }
 
 // A packet sent; s is the session from then on.
+#[tactic(auto, using(build::proofs::Laws::build_long))]
 fn sent(s: Session, taken: usize, q: Request, out: &mut [u8]) -> Stepped
     requires { 48 ≤ length out.old }
     ensures { (result ≡ gives s taken (Answer.Send (size_of q))) × (out.new ≡ front q out.old) }

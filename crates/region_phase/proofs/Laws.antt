@@ -31,6 +31,7 @@ use Rattle.region_phase.specs.declared.Advance.TheVariants as D
 use Rattle.base.proofs.Tests.{neither}
 use Rattle.std.specs.Prelude.{Result, Ok, Err}
 use Rattle.refusal.specs.declared.Refusal.{Refusal}
+use Rattle.refusal.specs.declared.Refusal.TheVariants as Refusal
 
 pub record InLimits (f k : ℕ) (x : Region) (t : List ℕ) : Type 0 where
   pub table : k ≤ length t
@@ -114,14 +115,14 @@ module _ (v : Width) (u : Opening) (m : ℕ) (x : Region) (n : ℕ) (o : List �
       (λ e. by_test (ltb (2 ^ 63 + 1) m || region_limit (field_size v) k x t) (λ l. left (rw (e, l) at q)) (λ l. within_still (rw (e, l) at q)))
 
 -- what a region's step comes to is told apart
-pub refused≢begins : (why : ℕ) → Err why ≡ Ok D.Begins → ⊥
+pub refused≢begins : (why : Refusal) → ◌≡◌ {A = Result Advance Refusal} (Err why) (Ok D.Begins) → ⊥
 refused≢begins why q = let z : ◌≡◌ {A = ℕ} 0 1 = cc in omega arith
 
-pub refused≢closes : (why : ℕ) → Err why ≡ Ok D.Closes → ⊥
+pub refused≢closes : (why : Refusal) → ◌≡◌ {A = Result Advance Refusal} (Err why) (Ok D.Closes) → ⊥
 refused≢closes why q = let z : ◌≡◌ {A = ℕ} 0 1 = cc in omega arith
 
-pub begins≢to : (c : Counted) → (Ok D.Begins) ≡ Ok (D.To c) → ⊥
-begins≢to c q = let z : ◌≡◌ {A = ℕ} 0 1 = cc in omega arith
+pub begins≢to : (c : Counted) → ◌≡◌ {A = Result Advance Refusal} (Ok D.Begins) (Ok (D.To c)) → ⊥
+begins≢to c q = let z : D.Begins ≡ D.To c = cc in let y : ◌≡◌ {A = ℕ} 0 1 = cc in omega arith
 
 -- the entry behind one of the table's has a number
 pub next_fits : (f k i : ℕ) → i < entries_in f k → Fits w64 k → i + 1 < 2 ^ 64
@@ -141,10 +142,10 @@ pub record Passed (v : Width) (m k : ℕ) (x : Region) (t o : List ℕ) : Type 0
   pub within : InLimits (field_size v) k x t
 
 pub advance_passed : (v : Width) (u : Opening) (m k : ℕ) (x : Region) (n : ℕ) (t o : List ℕ) {a : Advanced}
-    → ((why : ℕ) → advanced (Err why) o ≡ a → ⊥) → advance_of v u m k x n t o ≡ a → Passed v m k x t o
+    → ((why : Refusal) → advanced (Err why) o ≡ a → ⊥) → advance_of v u m k x n t o ≡ a → Passed v m k x t o
 unfolding advance_of
 advance_passed v u m k x n t o never q =
-    let r = by_else (ltb (length o) 48) _ _ (never 3) q in
-    let l = by_else (ltb (2 ^ 63 + 1) m || region_limit (field_size v) k x t) _ _ (never 18) r.1 in
+    let r = by_else (ltb (length o) 48) _ _ (never Refusal.OutBuffer) q in
+    let l = by_else (ltb (2 ^ 63 + 1) m || region_limit (field_size v) k x t) _ _ (never Refusal.Limit) r.1 in
     let b = neither (ltb (2 ^ 63 + 1) m) (region_limit (field_size v) k x t) l.0 in
     record { room = ltb-false (length o) 48 r.0; reads = ltb-false (2 ^ 63 + 1) m b.0; within = region_within (field_size v) k x t b.1 }

@@ -12,22 +12,22 @@ ghost use Rattle.session.specs.RegionPhase.{asked_of, asked_out, handed_of, coun
 ghost use Rattle.session.specs.Guard.{region_step};
 ghost use Rattle.region_phase.specs.Advance.{advanced, advance_within, advance_of};
 
-use build::{read_size, sahara_send_mem_read};
+use build::sahara_send_mem_read;
 use chunk::due_after;
 use entry::entry_at;
 use field::Width;
-use filename::{NameCheck, check_after_open};
+use filename::check_after_open;
 use limits::{past_memory, reads_limit, region_limit};
+use refusal::Refusal;
 use region_counts::{asks_for, hands_out, past_end, recount};
 use session::{Answer, Counted, Phase, Region, Session, Stepped};
 use turn::{moved, untouched};
 use verdict::Opening;
 
-// What a region's step comes to, by its counts: refused; bytes are outstanding and none came; other counts; the region is to be begun, its name judged;
-// it is to be closed.
+// What a region's step comes to by its counts, where it is not refused: bytes are outstanding and none came; other counts; the region is to be begun, its
+// name judged; it is to be closed.
 #[derive(Clone, Copy)]
 pub enum Advance {
-    Refused(Refusal),
     Waits,
     To(Counted),
     Begins,
@@ -37,18 +37,18 @@ pub enum Advance {
 // ---- over the counts
 
 // No bytes are outstanding and some are left: the next memory read.
+#[tactic(auto, using(build::proofs::Laws::build_long))]
 fn ask(width: Width, opening: Opening, reads: u64, x: Region, out: &mut [u8]) -> Counted
     requires { (48 ≤ length out.old) × (x.done < x.len) × (x.base + x.len ≤ 256 ^ field_size width) × (reads ≤ 2 ^ 63 + 1) }
     ensures { (result ≡ asked_of width opening reads x) × (out.new ≡ asked_out width opening x out.old) }
 {
     let n = asks_for(opening, x);
-    sahara_send_mem_read(out, width, x.base + x.done, n);
-    let count = reads + 1;
+    let k = sahara_send_mem_read(out, width, x.base + x.done, n).unwrap();
     Counted {
         region: recount(x, x.done, n, false),
-        reads: count,
+        reads: reads + 1,
         taken: 0,
-        answer: Answer::Send(read_size(width)),
+        answer: Answer::Send(k),
     }
 }
 
@@ -69,6 +69,7 @@ fn hand_out(opening: Opening, reads: u64, x: Region, came: usize) -> Counted
 }
 
 // With every count within its limit: the empty read that is due, a chunk asked for, or one handed out.
+#[tactic(auto, unfolding(crate::specs::Advance::advance_within))]
 fn advance_within(
     width: Width,
     opening: Opening,
@@ -79,10 +80,9 @@ fn advance_within(
 ) -> Advance
     requires { (48 ≤ length out.old) × (reads ≤ 2 ^ 63 + 1) × (x.done + x.outstanding ≤ x.len)
         × ((x.done ≡ 0 → ⊥) → x.base + x.len ≤ 256 ^ field_size width) }
-    ensures { advanced result out.new ≡ advance_within width opening reads x came out.old }
+    ensures { advanced (Ok result) out.new ≡ advance_within width opening reads x came out.old }
 {
-    let due = x.due;
-    if due {
+    if x.due {
         return Advance::To(Counted {
             region: recount(x, x.done, x.outstanding, false),
             reads,
@@ -106,6 +106,7 @@ fn advance_within(
 }
 
 // A region's step over its counts: k is the table's length, x the region, and so many bytes came.
+#[tactic(auto, unfolding(crate::specs::Advance::advance_of))]
 pub fn advance_region(
     width: Width,
     opening: Opening,
@@ -115,19 +116,16 @@ pub fn advance_region(
     came: usize,
     table: &[u8],
     out: &mut [u8],
-) -> Advance
+) -> Result<Advance, Refusal>
     ensures { advanced result out.new ≡ advance_of width opening reads k x came table.now out.old }
 {
     if out.len() < 48 {
-        return Advance::Refused(Refusal::OutBuffer);
+        return Err(Refusal::OutBuffer);
     }
-    if reads_limit(reads) {
-        return Advance::Refused(Refusal::Limit);
+    if reads_limit(reads) || region_limit(width, k, x, table) {
+        return Err(Refusal::Limit);
     }
-    if region_limit(width, k, x, table) {
-        return Advance::Refused(Refusal::Limit);
-    }
-    advance_within(width, opening, reads, x, came, out)
+    Ok(advance_within(width, opening, reads, x, came, out))
 }
 
 // ---- put into a session
@@ -135,21 +133,14 @@ pub fn advance_region(
 fn counted_in(s: Session, k: usize, c: Counted) -> Stepped
     ensures { result ≡ counted_in s k c }
 {
-    let opening = s.opening;
-    let width = s.width;
-    let window = s.window;
-    let x = c.region;
-    let answer = c.answer;
     Stepped {
         session: Session {
-            opening,
             reads: c.reads,
-            width,
-            window,
-            phase: Phase::Region(k, x),
+            phase: Phase::Region(k, c.region),
+            ..s
         },
         taken: c.taken,
-        answer,
+        answer: c.answer,
     }
 }
 
@@ -168,37 +159,44 @@ fn close(s: Session, k: usize, x: Region) -> Stepped
     requires { x.entry + 1 < 2 ^ 64 }
     ensures { result ≡ closes s k x }
 {
-    let entry = x.entry;
-    moved(s, Phase::Between(k, entry + 1), 0, Answer::Close(entry))
+    moved(s, Phase::Between(k, x.entry + 1), 0, Answer::Close(x.entry))
 }
 
 // The step after open, by the entry's name, then its end: 21, then 22 or 24.
+#[tactic(
+    auto,
+    using(entry::proofs::Laws::entry_there),
+    unfolding(session::specs::RegionPhase::next_chunk)
+)]
 fn begin_region(s: Session, k: usize, x: Region, table: &[u8], out: &mut [u8]) -> Stepped
     requires { (48 ≤ length out.old) × (there (field_size s.width) table.now x.entry ≡ true) × (s.reads ≤ 2 ^ 63 + 1) }
     ensures { (y : List ℕ) → outcome result table.now y out.new
         ≡ begun_of s k x table.now y out.old (after_open_check (name_in s.width table.now x)) }
 {
-    let width = s.width;
-    let i = x.entry;
-    let at = entry_at(table, width, i);
-    let entry = at.entry;
-    let name = entry.filename;
-    let check = check_after_open(&name);
-    if let Err(why) = check {
+    let entry = entry_at(table, s.width, x.entry).unwrap();
+    if let Err(why) = check_after_open(&entry.filename) {
         return moved(s, Phase::Ended(0), 0, Answer::Refused(why));
     }
-    if past_memory(width, x.base, x.len) {
-        return moved(s, Phase::Ended(0), 0, Answer::Refused(past_end(width)));
+    if past_memory(s.width, x.base, x.len) {
+        return moved(s, Phase::Ended(0), 0, Answer::Refused(past_end(s.width)));
     }
     if x.len <= x.done {
         return close(s, k, x);
     }
-    let opening = s.opening;
-    let c = ask(width, opening, s.reads, x, out);
+    let c = ask(s.width, s.opening, s.reads, x, out);
     counted_in(s, k, c)
 }
 
 // A step in a region: k is the table's length, x the region.
+#[tactic(
+    auto,
+    unfolding(
+        session::specs::Guard::region_step,
+        session::specs::RegionPhase::region_of,
+        session::specs::RegionPhase::ask_of,
+        session::specs::RegionPhase::hand_of
+    )
+)]
 pub fn region_step(
     s: Session,
     k: usize,
@@ -211,11 +209,12 @@ pub fn region_step(
     ensures { Tells outcome_told (outcome result table.now reply.now out.new)
         (region_step s k x delivery.now table.now reply.now out.old) }
 {
-    let width = s.width;
-    let opening = s.opening;
-    let a = advance_region(width, opening, s.reads, k, x, delivery.len(), table, out);
+    let came = delivery.len();
+    let a = match advance_region(s.width, s.opening, s.reads, k, x, came, table, out) {
+        Ok(a) => a,
+        Err(why) => return untouched(s, why),
+    };
     match a {
-        Advance::Refused(why) => untouched(s, why),
         Advance::Waits => waits(s),
         Advance::To(c) => counted_in(s, k, c),
         Advance::Begins => begin_region(s, k, x, table, out),

@@ -10,9 +10,10 @@ use borrow.Author.Tests.{eqb-true, eqb-false, eq-eqb, le-ltb, ltb-false, leb-tru
 use lib.Dec.{eqb, leb}
 use Rattle.std.specs.Char.{to_ascii_lowercase}
 use Rattle.std.proofs.lemmas.Str.Ascii.{lowercase_is}
-use lib.ListN.{length, take, drop}
+use lib.ListN.{length, take, drop, length-map, length-take, length-drop}
 use Rattle.base.specs.Choice.{pick}
 use Rattle.base.proofs.Ranges.{by_test, by_then}
+use Rattle.bundle.proofs.Laws.{slot_within}
 use Rattle.bundle.specs.Bundle.{slot_of}
 use Rattle.bundle.specs.declared.Slot.TheVariants.{At}
 use Rattle.entry.specs.Entry.{entry_size, there, entry_at}
@@ -93,6 +94,14 @@ named_other b n stem i start size h e d =
     let name : List ℕ = map low (take size (drop start b)) in
     named_at b n stem i start size h e
     ∙ by_test (same (map low stem) name) (λ s. absurd (d (sym (same_equal (map low stem) name s)))) (λ s. rw s refl)
+
+-- one of another length than the stem's among them
+pub named_unequal : (b : List ℕ) (n : ℕ) (stem : List ℕ) (i start size : ℕ) → i < n → slot_of b i ≡ At start size → (size ≡ length stem → ⊥)
+    → named_from b n stem i ≡ named_from b n stem (i + 1)
+named_unequal b n stem i start size h e d =
+    let name : List ℕ = take size (drop start b) in
+    let w : length name ≡ size = simp (length-take, length-drop) (omega (arith, slot_within b i start size e)) in
+    named_other b n stem i start size h e (λ q. d (sym w ∙ sym (length-map name low) ∙ ap length q ∙ length-map stem low))
 
 -- an entry that is not there is not selected
 pub selected_missing : (f : ℕ) (names t : List ℕ) (i : ℕ) → there f t i ≡ false → selected_at f names t i ≡ false

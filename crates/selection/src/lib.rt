@@ -17,14 +17,14 @@ pub fn lower(b: u8) -> u8
     b.to_ascii_lowercase()
 }
 
-// Whether a stem is one of n names, both sides lowered. A name's bytes are left at the first that differs, and the search at the first name that is
-// the stem.
+// Whether a stem is one of n names, both sides lowered. A name of another length is left at once, one of the stem's length at the first byte that differs,
+// and the search at the first name that is the stem.
 fn named(names: &[u8], n: usize, stem: &[u8]) -> bool
     ensures { result ≡ member (map low stem.now) (map (map low) (names_from names.now n 0)) }
 {
     for i in 0..n {
         if let Slot::At(start, size) = slot_at(names, SlotNumber(i)) {
-            if names[start..start + size].eq_ignore_ascii_case(stem) {
+            if size == stem.len() && names[start..start + size].eq_ignore_ascii_case(stem) {
                 return true;
             }
         }

@@ -1,16 +1,19 @@
 // Packets: decoding, the length rule, building.
-use crate::{show, text};
+use crate::show;
+use crate::show::Hex;
+use crate::text::Line;
 use build::{Built, Request, build};
 use command::{
-    CommandOf, ModeOf, SaharaCmd, command_number, command_of, kind_number, mode_number, mode_of,
+    CommandOf, ModeOf, SaharaCmd, SaharaCmdModeCmd, SaharaMode, command_number, command_of,
+    kind_number, mode_number, mode_of,
 };
 use field::Width;
 use packet::{
-    Decoded, ExecData, ExecResp, HelloReq, HelloResp, LengthCheck, SaharaPacket, SaharaPacketBody,
-    Unk, sahara_parse_packet, sahara_read_packet_length,
+    Decoded, LengthCheck, SaharaPacket, SaharaPacketBody, Unk, sahara_parse_packet,
+    sahara_read_packet_length,
 };
-use std::io;
 use std::io::Write;
+use std::{fmt, io};
 
 fn kind_of(body: SaharaPacketBody) -> SaharaCmd {
     match body {
@@ -32,154 +35,138 @@ fn kind_of(body: SaharaPacketBody) -> SaharaCmd {
     }
 }
 
-fn six_words<W: Write>(to: &mut W, u: Unk) -> io::Result<()> {
-    show::three_words(to, u.unk0, u.unk1, u.unk2)?;
-    show::three_words(to, u.unk3, u.unk4, u.unk5)
+// The six words of a hello that nobody uses.
+#[derive(Clone, Copy)]
+struct Unused(Unk);
+
+impl fmt::Display for Unused {
+    fn fmt<W: fmt::Write>(&self, f: &mut fmt::Formatter<W>) -> fmt::Result {
+        let u = self.0;
+        write!(f, " {:x} {:x} {:x}", u.unk0, u.unk1, u.unk2)?;
+        write!(f, " {:x} {:x} {:x}", u.unk3, u.unk4, u.unk5)
+    }
 }
 
-fn hello_req<W: Write>(to: &mut W, h: HelloReq) -> io::Result<()> {
-    let mode = h.mode;
-    let unk = h.unk;
-    show::three_words(to, h.ver, h.compatible, h.max_len)?;
-    show::word(to, u32::from(mode))?;
-    six_words(to, unk)
-}
-
-fn hello_resp<W: Write>(to: &mut W, h: HelloResp) -> io::Result<()> {
-    let mode = h.mode;
-    let unk = h.unk;
-    show::three_words(to, h.ver, h.compatible, h.status)?;
-    show::word(to, u32::from(mode))?;
-    six_words(to, unk)
-}
-
-fn exec_resp<W: Write>(to: &mut W, e: ExecResp) -> io::Result<()> {
-    let command = e.command;
-    show::word(to, u32::from(command))?;
-    show::word(to, e.len)
-}
-
-fn exec_data<W: Write>(to: &mut W, e: ExecData) -> io::Result<()> {
-    let command = e.command;
-    show::word(to, u32::from(command))
+// Three words, the mode and the unused words of a hello.
+fn hello<W: Write>(
+    to: &mut W,
+    first: u32,
+    second: u32,
+    third: u32,
+    mode: SaharaMode,
+    unk: Unk,
+) -> io::Result<()> {
+    let mode = u32::from(mode);
+    write!(
+        to,
+        " {first:x} {second:x} {third:x} {mode:x}{}",
+        Unused(unk)
+    )
 }
 
 // The fields of a body, in document 01's order.
 fn fields<W: Write>(to: &mut W, body: SaharaPacketBody) -> io::Result<()> {
     match body {
-        SaharaPacketBody::HelloReq(h) => hello_req(to, h),
-        SaharaPacketBody::HelloResp(h) => hello_resp(to, h),
-        SaharaPacketBody::ReadReq(r) => show::three_words(to, r.image, r.offset, r.len),
-        SaharaPacketBody::Eoi(e) => show::two_words(to, e.image, e.status),
+        SaharaPacketBody::HelloReq(h) => hello(to, h.ver, h.compatible, h.max_len, h.mode, h.unk),
+        SaharaPacketBody::HelloResp(h) => hello(to, h.ver, h.compatible, h.status, h.mode, h.unk),
+        SaharaPacketBody::ReadReq(r) => write!(to, " {:x} {:x} {:x}", r.image, r.offset, r.len),
+        SaharaPacketBody::Eoi(e) => write!(to, " {:x} {:x}", e.image, e.status),
         SaharaPacketBody::DoneReq => Ok(()),
-        SaharaPacketBody::DoneResp(d) => show::word(to, d.status),
+        SaharaPacketBody::DoneResp(d) => write!(to, " {:x}", d.status),
         SaharaPacketBody::ResetResp => Ok(()),
-        SaharaPacketBody::DebugReq(d) => show::two_words(to, d.addr, d.len),
-        SaharaPacketBody::ReadMemReq(r) => show::two_words(to, r.addr, r.len),
+        SaharaPacketBody::DebugReq(d) => write!(to, " {:x} {:x}", d.addr, d.len),
+        SaharaPacketBody::ReadMemReq(r) => write!(to, " {:x} {:x}", r.addr, r.len),
         SaharaPacketBody::CommandReady => Ok(()),
-        SaharaPacketBody::ExecResp(e) => exec_resp(to, e),
-        SaharaPacketBody::ExecData(e) => exec_data(to, e),
-        SaharaPacketBody::Debug64Req(d) => show::two_longs(to, d.addr, d.len),
-        SaharaPacketBody::ReadMem64Req(r) => show::two_longs(to, r.addr, r.len),
+        SaharaPacketBody::ExecResp(e) => {
+            write!(to, " {:x} {:x}", u32::from(e.command), e.len)
+        }
+        SaharaPacketBody::ExecData(e) => write!(to, " {:x}", u32::from(e.command)),
+        SaharaPacketBody::Debug64Req(d) => write!(to, " {:x} {:x}", d.addr, d.len),
+        SaharaPacketBody::ReadMem64Req(r) => write!(to, " {:x} {:x}", r.addr, r.len),
         SaharaPacketBody::ReadData64Req(r) => {
-            show::long(to, r.image)?;
-            show::two_longs(to, r.offset, r.len)
+            write!(to, " {:x} {:x} {:x}", r.image, r.offset, r.len)
         }
     }
 }
 
 fn packet<W: Write>(to: &mut W, p: SaharaPacket) -> io::Result<()> {
-    let body = p.body;
-    show::text(to, b"packet")?;
-    show::word(to, u32::from(kind_of(body)))?;
-    show::word(to, p.len)?;
-    fields(to, body)
+    let kind = u32::from(kind_of(p.body));
+    write!(to, "packet {kind:x} {:x}", p.len)?;
+    fields(to, p.body)
 }
 
-// d BYTES: the kind's number, the length field, the fields.
-pub(crate) fn decode<W: Write>(to: &mut W, line: &[u8]) -> io::Result<()> {
-    let mut p = [0u8; 1024];
-    let n = text::bytes(line, 1, &mut p);
-    match sahara_parse_packet(&p[..n]) {
-        Ok(d) => packet(to, d),
+fn decoded<W: Write>(to: &mut W, d: Result<SaharaPacket, Refusal>) -> io::Result<()> {
+    match d {
+        Ok(p) => packet(to, p),
         Err(k) => show::refused(to, k),
     }
 }
 
-// l LENGTH
-pub(crate) fn length<W: Write>(to: &mut W, line: &[u8]) -> io::Result<()> {
-    match sahara_read_packet_length(text::number(line, 1)) {
+// d BYTES: the kind's number, the length field, the fields.
+pub(crate) fn decode<W: Write>(to: &mut W, line: Line<'_>) -> io::Result<()> {
+    let bytes = line.bytes(1, 1024)?;
+    decoded(to, sahara_parse_packet(&bytes))
+}
+
+fn length_check<W: Write>(to: &mut W, c: Result<(), Refusal>) -> io::Result<()> {
+    match c {
         Ok(()) => show::good(to),
         Err(k) => show::refused(to, k),
     }
 }
 
-fn sent<W: Write>(to: &mut W, k: usize) -> io::Result<()> {
-    show::text(to, b"send ")?;
-    show::number(to, k)
+// l LENGTH
+pub(crate) fn length<W: Write>(to: &mut W, line: Line<'_>) -> io::Result<()> {
+    length_check(to, sahara_read_packet_length(line.number(1)))
 }
 
-fn built<W: Write>(to: &mut W, out: &mut [u8], q: Request) -> io::Result<()> {
-    match build(out, q) {
-        Ok(k) => sent(to, k)?,
-        Err(k) => show::refused(to, k)?,
-    }
-    show::text(to, b" ")?;
-    show::bytes(to, out)
-}
-
-fn build_hello<W: Write>(to: &mut W, line: &[u8], out: &mut [u8]) -> io::Result<()> {
-    match SaharaMode::try_from(text::number(line, 3)) {
-        Ok(m) => built(to, out, Request::HelloResp(m)),
-        Err(_) => show::nothing(to),
+fn built<W: Write>(to: &mut W, b: Result<usize, Refusal>) -> io::Result<()> {
+    match b {
+        Ok(k) => write!(to, "send {k}"),
+        Err(k) => show::refused(to, k),
     }
 }
 
-fn build_execute<W: Write>(to: &mut W, line: &[u8], out: &mut [u8]) -> io::Result<()> {
-    match SaharaCmdModeCmd::try_from(text::number(line, 3)) {
-        Ok(c) => built(to, out, Request::Execute(c)),
-        Err(_) => show::nothing(to),
+fn mode_at(line: Line<'_>, k: usize) -> Option<SaharaMode> {
+    match SaharaMode::try_from(line.number(k)) {
+        Ok(m) => Some(m),
+        Err(_) => None,
     }
 }
 
-fn build_execute_data<W: Write>(to: &mut W, line: &[u8], out: &mut [u8]) -> io::Result<()> {
-    match SaharaCmdModeCmd::try_from(text::number(line, 3)) {
-        Ok(c) => built(to, out, Request::ExecuteData(c)),
-        Err(_) => show::nothing(to),
+fn command_at(line: Line<'_>, k: usize) -> Option<SaharaCmdModeCmd> {
+    match SaharaCmdModeCmd::try_from(line.number(k)) {
+        Ok(c) => Some(c),
+        Err(_) => None,
     }
 }
 
-fn build_mem_read<W: Write>(
-    to: &mut W,
-    line: &[u8],
-    out: &mut [u8],
-    width: Width,
-) -> io::Result<()> {
-    let addr = text::long(line, 3);
-    let len = text::long(line, 4);
-    built(to, out, Request::MemRead(width, addr, len))
-}
-
-fn build_into<W: Write>(to: &mut W, line: &[u8], out: &mut [u8]) -> io::Result<()> {
-    match text::number(line, 2) {
-        2 => build_hello(to, line, out),
-        5 => built(to, out, Request::Done),
-        7 => built(to, out, Request::Reset),
-        0x0a => build_mem_read(to, line, out, Width::Bits32),
-        0x0c => built(to, out, Request::SwitchMode),
-        0x0d => build_execute(to, line, out),
-        0x0f => build_execute_data(to, line, out),
-        0x11 => build_mem_read(to, line, out, Width::Bits64),
-        _ => show::nothing(to),
+// What the words ask to send.
+fn request(line: Line<'_>) -> Option<Request> {
+    let mem_read = |width| Request::MemRead(width, line.long(3), line.long(4));
+    match line.number(2) {
+        2 => mode_at(line, 3).map(Request::HelloResp),
+        5 => Some(Request::Done),
+        7 => Some(Request::Reset),
+        0x0a => Some(mem_read(Width::Bits32)),
+        0x0c => Some(Request::SwitchMode),
+        0x0d => command_at(line, 3).map(Request::Execute),
+        0x0f => command_at(line, 3).map(Request::ExecuteData),
+        0x11 => Some(mem_read(Width::Bits64)),
+        _ => None,
     }
 }
 
 // b SIZE COMMAND ..: the packet of a command number in an out buffer of SIZE bytes of 0xAA, and the whole buffer afterwards.
-pub(crate) fn build_case<W: Write>(to: &mut W, line: &[u8]) -> io::Result<()> {
-    let mut out = [0xAAu8; 64];
-    let size = text::index(line, 1);
+pub(crate) fn build_case<W: Write>(to: &mut W, line: Line<'_>) -> io::Result<()> {
+    let size = line.index(1);
     if 64 < size {
         return show::nothing(to);
     }
-    build_into(to, line, &mut out[..size])
+    let Some(request) = request(line) else {
+        return show::nothing(to);
+    };
+    let mut out = vec![in line.alloc; 0xAA; size]?;
+    built(to, build(&mut out, request))?;
+    write!(to, " {}", Hex(&out))
 }

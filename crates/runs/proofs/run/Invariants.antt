@@ -3,4 +3,4 @@ use Rattle.std.proofs.Common.{◌≤◌, length}
 use Rattle.runs.proofs.run.Given as goal
 
 abbrev pub invariant-loop : goal.invariant-loop
-invariant-loop g l = (l.f.from ≤ l.f.to) × (l.f.to ≤ length l.feed)
+invariant-loop g l = (l.f.from ≤ l.f.to) × (l.f.to ≤ length l.parts.feed.now)

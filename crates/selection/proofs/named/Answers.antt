@@ -7,9 +7,9 @@ use Rattle.bundle.specs.Bundle.{slot_of}
 use Rattle.bundle.specs.declared.Slot.{Slot}
 use Rattle.bundle.specs.declared.Slot.TheVariants as S
 use Rattle.selection.specs.Selection.{low}
-use Rattle.selection.proofs.Laws.{named_from, named_done, named_here, named_other, named_without, named_all, lowered_is}
+use Rattle.selection.proofs.Laws.{named_from, named_done, named_here, named_other, named_unequal, named_without, named_all, lowered_is}
 use Rattle.selection.proofs.named.Goals as goal
-use Rattle.selection.proofs.named.Goals.{in-At+else-eq_ignore_ascii_case, in_default}
+use Rattle.selection.proofs.named.Goals.{in-At+else-size-stem, in_default, else-size-stem-via-then-size-stem+else-eq_ignore_ascii_case, else-size-stem-via-else-size-stem}
 
 -- a slot that is not `At` has no name
 nameless : (b : List ℕ) (n : ℕ) (stem : List ℕ) (i : ℕ) (x : Slot) → i < n → ((k l : ℕ) → x ≡ S.At k l → ⊥) → slot_of b i ≡ x
@@ -43,16 +43,23 @@ returns-then-eq_ignore_ascii_case c =
 pub loop-i-preserved : goal.loop-i-preserved
 loop-i-preserved c =
     let a = c.args in
+    let names = a.names.now in
+    let stem = a.stem.now in
     let i = c.loop-i.i in
     let below = c.loop-i-test.true in
     let is = c.slot_at.ensures.is in
     c.loop-i.invariant
     ∙ elim c.match-slot_at.branch [
-      | in-At+else-eq_ignore_ascii_case w ↦
+      | in-At+else-size-stem w ↦
           let at = w.in-At in
-          named_other a.names.now a.n a.stem.now i at.start at.size below (sym is ∙ at.is)
-          (λ q. clash (w.if-eq_ignore_ascii_case.ensures.test.1 (part_is a.names.now at.start at.size ∙ q ∙ sym (lowered_is a.stem.now))))
-      | in_default w ↦ nameless a.names.now a.n a.stem.now i c.slot_at.result below w.in_default.not-At (sym is)
+          let e = sym is ∙ at.is in
+          elim w.else-size-stem.branch [
+            | else-size-stem-via-then-size-stem+else-eq_ignore_ascii_case v ↦
+                named_other names a.n stem i at.start at.size below e
+                (λ q. clash (v.if-eq_ignore_ascii_case.ensures.test.1 (part_is names at.start at.size ∙ q ∙ sym (lowered_is stem))))
+            | else-size-stem-via-else-size-stem v ↦ named_unequal names a.n stem i at.start at.size below e v.if-size-stem.false
+          ]
+      | in_default w ↦ nameless names a.n stem i c.slot_at.result below w.in_default.not-At (sym is)
     ]
 
 pub returns : goal.returns
