@@ -9,7 +9,7 @@ use session::{Answer, Session, Stepped};
 use std::alloc::{AllocError, Global};
 use std::io;
 use std::io::Read;
-use verdict::{ExecCommand, QdlBackend};
+use verdict::QdlBackend;
 
 // Prints a step; true where the session goes on.
 fn told(rt: &impl Print, taken: usize, a: Answer) -> io::Result<bool> {
@@ -102,11 +102,7 @@ fn turn(
 fn run<R: Read>(rt: &impl Print, alloc: Global, input: &mut R) -> io::Result<()> {
     let mut delivery = Vec::new(alloc);
     let mut buffers = Buffers::new(alloc)?;
-    let mut s = host::open(
-        SaharaMode::WaitingForImage,
-        None,
-        QdlBackend::Serial,
-    );
+    let mut s = host::open(SaharaMode::WaitingForImage, None, QdlBackend::Serial);
     let mut f = feed::begin();
     for _ in 0..u64::MAX {
         let fed = refill(input, &mut delivery, f)?;

@@ -1,8 +1,8 @@
 // Replays conversations from standard input and prints a line a step: bytes taken, answer, number, and what else the answer tells.
 // A conversation is twelve words (mode, command or 4, backend, delivery size, sizes of the out, table and reply buffers, lengths of the session, of what the
 // table and reply buffers begin with, of the image set, the names and the device's bytes) and these five. A session of no bytes is one as opened. Else
-// the buffers hold zeros behind what they begin with, and a last line tells the session; of fewer than 80 bytes it is as opened too, of others made up: ten numbers
-// of 8 bytes (phase, width, memory reads; count, at, base, len, done, outstanding, due, as they cross to C) and the window.
+// the buffers hold zeros behind what they begin with, and a last line tells the session; of fewer than 80 bytes it is as opened too, of others made up:
+// ten numbers of 8 bytes (phase, width, memory reads; count, at, base, len, done, outstanding, due, as they cross to C) and the window.
 #![tactic(auto)]
 
 ghost use Rattle.std.specs.Prelude.{◌≡◌, ◌^◌, ◌<◌, ◌≤◌, IfOk};
@@ -13,6 +13,7 @@ use session::{Answer, Phase, Session, Stepped};
 use std::alloc::{AllocError, Global};
 use std::io::{Read, Write};
 use std::{fmt, io};
+use verdict::Finish;
 
 // The parts of a conversation, which lie one behind the other.
 #[derive(Clone, Copy)]
@@ -33,7 +34,7 @@ struct Buffers {
 }
 
 fn word(words: &[u8], at: usize) -> u32 {
-    field::u32_padded(words, at)
+    field::padded(words, at)
 }
 
 fn count(words: &[u8], at: usize) -> usize
@@ -97,7 +98,7 @@ fn opened_by(words: &[u8]) -> Session {
 }
 
 fn long(s: &[u8], at: usize) -> u64 {
-    field::u64_padded(s, at)
+    field::padded(s, at)
 }
 
 // The first 48 bytes, with zeros behind fewer.
@@ -126,7 +127,7 @@ fn session_of(opened: Session, s: &[u8]) -> Session {
         outstanding: long(s, 64),
         due: long(s, 72).min(1),
         window: window_of(&s[80..]),
-        ..raw::raw_of(opened)
+        ..RawSession::from(opened)
     })
 }
 
@@ -170,8 +171,8 @@ fn told<W: Write>(to: &mut W, taken: usize, a: Answer, set: &[u8], out: &[u8]) -
         Answer::Bytes(k) => writeln!(to, "{taken} bytes {k}"),
         Answer::EmptyRead => writeln!(to, "{taken} empty read 0"),
         Answer::Close(i) => writeln!(to, "{taken} close {i}"),
-        Answer::Finished(how, reads) => writeln!(to, "{taken} finished {how} {reads}"),
-        Answer::Refused(why) => writeln!(to, "{taken} refused {why}"),
+        Answer::Finished(how, reads) => writeln!(to, "{taken} finished {} {reads}", u8::from(how)),
+        Answer::Refused(why) => writeln!(to, "{taken} refused {}", u8::from(why)),
     }
 }
 
@@ -183,15 +184,19 @@ fn goes_on(a: Answer) -> bool {
 // The reply of a session that finished (4).
 fn replied<W: Write>(to: &mut W, a: Answer, p: Phase, reply: &[u8]) -> io::Result<()> {
     match (a, p) {
-        (Answer::Finished(4, _), Phase::Ended(0)) => writeln!(to, "reply -"),
-        (Answer::Finished(4, _), Phase::Ended(k)) => writeln!(to, "reply{}", first(reply, k)),
+        (Answer::Finished(Finish::Reply, _), Phase::Ended(0)) => writeln!(to, "reply -"),
+        (Answer::Finished(Finish::Reply, _), Phase::Ended(k)) => writeln!(
+            to,
+            "reply{}",
+            first(reply, k)
+        ),
         _ => Ok(()),
     }
 }
 
 // A session as numbers; those that its phase does not use are 0.
 fn told_session<W: Write>(to: &mut W, s: Session) -> io::Result<()> {
-    let r = raw::raw_of(s);
+    let r = RawSession::from(s);
     write!(
         to,
         "session {} {} {} {} {}",

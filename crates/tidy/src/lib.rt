@@ -23,6 +23,7 @@ use refusal::Refusal;
 use slot_sizes::{MOST, data_size, size_at, slot_count, start_at};
 
 // How long the tidy form of a set is.
+#[tactic(auto, unfolding(tidied::specs::Tidy::tidy_len_of))]
 pub fn tidy_len(set: &[u8]) -> Result<usize, Refusal>
     ensures { Tells tidied_told result (tidy_len_of set.now) }
 {
@@ -110,6 +111,7 @@ fn tidy_of(set: &[u8], to: &mut [u8], len: usize) -> Result<usize, Refusal>
 }
 
 // The tidy form of a set, as the first bytes of a buffer. Where it does not fit, nothing is written.
+#[tactic(auto, unfolding(tidied::specs::Tidy::tidy_of))]
 pub fn tidy(set: &[u8], to: &mut [u8]) -> Result<usize, Refusal>
     ensures { Tells tidy_told (tidy_outcome result to.new) (tidy_of set.now to.old) }
 {

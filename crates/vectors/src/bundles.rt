@@ -2,30 +2,23 @@
 use crate::show;
 use crate::show::Hex;
 use crate::text::Line;
-use bundle::{Checked, check_images, check_names};
-use image::{ImageId, ImageRange, image_range};
+use bundle::{check_images, check_names};
+use image::{ImageId, image_range};
+use refusal::Refusal;
 use std::io;
 use std::io::Write;
-use tidied::Tidied;
 use tidy::{tidy, tidy_len};
-
-fn checked<W: Write>(to: &mut W, c: Result<(), Refusal>) -> io::Result<()> {
-    match c {
-        Ok(()) => show::good(to),
-        Err(k) => show::refused(to, k),
-    }
-}
 
 // s BYTES
 pub(crate) fn images<W: Write>(to: &mut W, line: Line<'_>) -> io::Result<()> {
     let set = line.bytes(1, 1024)?;
-    checked(to, check_images(&set))
+    show::checked(to, check_images(&set))
 }
 
 // n BYTES
 pub(crate) fn names<W: Write>(to: &mut W, line: Line<'_>) -> io::Result<()> {
     let names = line.bytes(1, 1024)?;
-    checked(to, check_names(&names))
+    show::checked(to, check_names(&names))
 }
 
 fn ranged<W: Write>(to: &mut W, x: Result<(usize, usize), Refusal>) -> io::Result<()> {
@@ -42,13 +35,6 @@ pub(crate) fn range<W: Write>(to: &mut W, line: Line<'_>) -> io::Result<()> {
     ranged(to, image_range(&set, id, line.long(3), line.long(4)))
 }
 
-fn tidied<W: Write>(to: &mut W, t: Result<usize, Refusal>) -> io::Result<()> {
-    match t {
-        Ok(k) => write!(to, "{k}"),
-        Err(why) => show::refused(to, why),
-    }
-}
-
 // z SET SIZE: how long the tidy form is, then it in a buffer of SIZE bytes of 0xAA, and the whole buffer afterwards.
 pub(crate) fn tidy_case<W: Write>(to: &mut W, line: Line<'_>) -> io::Result<()> {
     let set = line.bytes(1, 1024)?;
@@ -57,8 +43,8 @@ pub(crate) fn tidy_case<W: Write>(to: &mut W, line: Line<'_>) -> io::Result<()> 
         return show::nothing(to);
     }
     let mut form = vec![in line.alloc; 0xAA; size]?;
-    tidied(to, tidy_len(&set))?;
+    show::made(to, tidy_len(&set))?;
     write!(to, " ")?;
-    tidied(to, tidy(&set, &mut form))?;
+    show::made(to, tidy(&set, &mut form))?;
     write!(to, " {}", Hex(&form))
 }

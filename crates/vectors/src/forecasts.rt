@@ -4,16 +4,15 @@ use crate::{regions, show};
 use entry::{RamdumpTable64, entry_at};
 use field::Width;
 use forecast::{forecast_of, forecast_table};
-use forecast_sums::Foreseen;
+use forecast_sums::Forecast;
+use refusal::Refusal;
 use std::io::Write;
 use std::{array, io};
 
-fn foreseen<W: Write>(to: &mut W, f: Foreseen) -> io::Result<()> {
-    match f {
-        Foreseen::Needs(regions, bytes, reads) => {
-            write!(to, "needs {regions:x} {bytes:x} {reads:x}")
-        }
-        Foreseen::Refused(why) => show::refused(to, why),
+fn foreseen<W: Write>(to: &mut W, x: Result<Forecast, Refusal>) -> io::Result<()> {
+    match x {
+        Ok(f) => write!(to, "needs {:x} {:x} {:x}", f.regions, f.bytes, f.reads),
+        Err(why) => show::refused(to, why),
     }
 }
 
@@ -24,9 +23,18 @@ pub(crate) fn of_table<W: Write>(to: &mut W, line: Line<'_>) -> io::Result<()> {
     foreseen(to, forecast_table(&table, regions::width(line), &names))
 }
 
+// An entry of zeros.
+const NONE: RamdumpTable64 = RamdumpTable64 {
+    save_pref: 0,
+    base: 0,
+    len: 0,
+    description: [0; 20],
+    filename: [0; 20],
+};
+
 // The first eight entries of a table; one that it does not have is zeros.
 fn eight(table: &[u8], width: Width) -> [RamdumpTable64; 8] {
-    array::from_fn(|i| entry_at(table, width, i).entry)
+    array::from_fn(|i| entry_at(table, width, i).unwrap_or(NONE))
 }
 
 // g WIDTH TABLE NAMES N: of the first N of eight entries, lent as a list.

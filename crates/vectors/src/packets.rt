@@ -2,16 +2,11 @@
 use crate::show;
 use crate::show::Hex;
 use crate::text::Line;
-use build::{Built, Request, build};
-use command::{
-    CommandOf, ModeOf, SaharaCmd, SaharaCmdModeCmd, SaharaMode, command_number, command_of,
-    kind_number, mode_number, mode_of,
-};
+use build::{Request, build};
+use command::{SaharaCmd, SaharaCmdModeCmd, SaharaMode};
 use field::Width;
-use packet::{
-    Decoded, LengthCheck, SaharaPacket, SaharaPacketBody, Unk, sahara_parse_packet,
-    sahara_read_packet_length,
-};
+use packet::{SaharaPacket, SaharaPacketBody, Unk, sahara_parse_packet, sahara_read_packet_length};
+use refusal::Refusal;
 use std::io::Write;
 use std::{fmt, io};
 
@@ -77,9 +72,7 @@ fn fields<W: Write>(to: &mut W, body: SaharaPacketBody) -> io::Result<()> {
         SaharaPacketBody::DebugReq(d) => write!(to, " {:x} {:x}", d.addr, d.len),
         SaharaPacketBody::ReadMemReq(r) => write!(to, " {:x} {:x}", r.addr, r.len),
         SaharaPacketBody::CommandReady => Ok(()),
-        SaharaPacketBody::ExecResp(e) => {
-            write!(to, " {:x} {:x}", u32::from(e.command), e.len)
-        }
+        SaharaPacketBody::ExecResp(e) => { write!(to, " {:x} {:x}", u32::from(e.command), e.len) }
         SaharaPacketBody::ExecData(e) => write!(to, " {:x}", u32::from(e.command)),
         SaharaPacketBody::Debug64Req(d) => write!(to, " {:x} {:x}", d.addr, d.len),
         SaharaPacketBody::ReadMem64Req(r) => write!(to, " {:x} {:x}", r.addr, r.len),
@@ -108,16 +101,9 @@ pub(crate) fn decode<W: Write>(to: &mut W, line: Line<'_>) -> io::Result<()> {
     decoded(to, sahara_parse_packet(&bytes))
 }
 
-fn length_check<W: Write>(to: &mut W, c: Result<(), Refusal>) -> io::Result<()> {
-    match c {
-        Ok(()) => show::good(to),
-        Err(k) => show::refused(to, k),
-    }
-}
-
 // l LENGTH
 pub(crate) fn length<W: Write>(to: &mut W, line: Line<'_>) -> io::Result<()> {
-    length_check(to, sahara_read_packet_length(line.number(1)))
+    show::checked(to, sahara_read_packet_length(line.number(1)))
 }
 
 fn built<W: Write>(to: &mut W, b: Result<usize, Refusal>) -> io::Result<()> {
@@ -127,31 +113,20 @@ fn built<W: Write>(to: &mut W, b: Result<usize, Refusal>) -> io::Result<()> {
     }
 }
 
-fn mode_at(line: Line<'_>, k: usize) -> Option<SaharaMode> {
-    match SaharaMode::try_from(line.number(k)) {
-        Ok(m) => Some(m),
-        Err(_) => None,
-    }
-}
-
-fn command_at(line: Line<'_>, k: usize) -> Option<SaharaCmdModeCmd> {
-    match SaharaCmdModeCmd::try_from(line.number(k)) {
-        Ok(c) => Some(c),
-        Err(_) => None,
-    }
-}
-
 // What the words ask to send.
 fn request(line: Line<'_>) -> Option<Request> {
+    let command = || SaharaCmdModeCmd::try_from(line.number(3)).ok();
     let mem_read = |width| Request::MemRead(width, line.long(3), line.long(4));
     match line.number(2) {
-        2 => mode_at(line, 3).map(Request::HelloResp),
+        2 => SaharaMode::try_from(line.number(3))
+            .ok()
+            .map(Request::HelloResp),
         5 => Some(Request::Done),
         7 => Some(Request::Reset),
         0x0a => Some(mem_read(Width::Bits32)),
         0x0c => Some(Request::SwitchMode),
-        0x0d => command_at(line, 3).map(Request::Execute),
-        0x0f => command_at(line, 3).map(Request::ExecuteData),
+        0x0d => command().map(Request::Execute),
+        0x0f => command().map(Request::ExecuteData),
         0x11 => Some(mem_read(Width::Bits64)),
         _ => None,
     }

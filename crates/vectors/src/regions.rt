@@ -2,11 +2,12 @@
 use crate::show;
 use crate::show::Hex;
 use crate::text::Line;
-use entry::{EntryAt, RamdumpTable64, entry_at};
+use entry::{RamdumpTable64, entry_at};
 use field::Width;
-use filename::{NameCheck, check_after_open, check_open, stem_len};
+use filename::{check_after_open, check_open, stem_len};
+use refusal::Refusal;
 use selection::{is_selected, next_selected};
-use sheet::{Sheet, region_sheet};
+use sheet::region_sheet;
 use std::io;
 use std::io::Write;
 
@@ -26,23 +27,16 @@ pub(crate) fn stem<W: Write>(to: &mut W, line: Line<'_>) -> io::Result<()> {
     write!(to, "{}", Hex(stem_of(&name)))
 }
 
-fn name_check<W: Write>(to: &mut W, c: Result<(), Refusal>) -> io::Result<()> {
-    match c {
-        Ok(()) => show::good(to),
-        Err(k) => show::refused(to, k),
-    }
-}
-
 // o NAME
 pub(crate) fn opening<W: Write>(to: &mut W, line: Line<'_>) -> io::Result<()> {
     let name = line.bytes(1, 1024)?;
-    name_check(to, check_open(&name))
+    show::checked(to, check_open(&name))
 }
 
 // p NAME
 pub(crate) fn opened<W: Write>(to: &mut W, line: Line<'_>) -> io::Result<()> {
     let name = line.bytes(1, 1024)?;
-    name_check(to, check_after_open(&name))
+    show::checked(to, check_after_open(&name))
 }
 
 fn entry<W: Write>(to: &mut W, e: RamdumpTable64) -> io::Result<()> {
@@ -50,16 +44,16 @@ fn entry<W: Write>(to: &mut W, e: RamdumpTable64) -> io::Result<()> {
     write!(to, " {} {}", Hex(&e.description), Hex(&e.filename))
 }
 
-fn entry_or_none<W: Write>(to: &mut W, x: EntryAt) -> io::Result<()> {
-    if x.there {
-        return entry(to, x.entry);
+fn entry_or_none<W: Write>(to: &mut W, x: Option<RamdumpTable64>) -> io::Result<()> {
+    match x {
+        Some(e) => entry(to, e),
+        None => write!(to, "none"),
     }
-    write!(to, "none")
 }
 
 // The width of a table's numbers, in bits.
 pub(crate) fn width(line: Line<'_>) -> Width {
-    raw::width_of(u64::from(line.number(1)))
+    Width::try_from(u64::from(line.number(1))).unwrap_or(Width::Bits64)
 }
 
 // e WIDTH TABLE INDEX
@@ -83,13 +77,6 @@ pub(crate) fn next<W: Write>(to: &mut W, line: Line<'_>) -> io::Result<()> {
     write!(to, "{next}")
 }
 
-fn sheeted<W: Write>(to: &mut W, x: Result<usize, Refusal>) -> io::Result<()> {
-    match x {
-        Ok(k) => write!(to, "{k}"),
-        Err(why) => show::refused(to, why),
-    }
-}
-
 // r WIDTH TABLE SIZE: the region sheet on a page of SIZE bytes of 0xAA, and the whole page afterwards.
 pub(crate) fn sheet<W: Write>(to: &mut W, line: Line<'_>) -> io::Result<()> {
     let table = line.bytes(2, 1024)?;
@@ -98,6 +85,6 @@ pub(crate) fn sheet<W: Write>(to: &mut W, line: Line<'_>) -> io::Result<()> {
         return show::nothing(to);
     }
     let mut page = vec![in line.alloc; 0xAA; size]?;
-    sheeted(to, region_sheet(&table, width(line), &mut page))?;
+    show::made(to, region_sheet(&table, width(line), &mut page))?;
     write!(to, " {}", Hex(&page))
 }

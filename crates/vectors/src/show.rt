@@ -1,4 +1,5 @@
 // What is written: fields and bytes in hexadecimal, other numbers in decimal.
+use refusal::Refusal;
 use std::io::Write;
 use std::{fmt, io};
 
@@ -18,12 +19,24 @@ impl fmt::Display for Hex<'_> {
     }
 }
 
-pub(crate) fn good<W: Write>(to: &mut W) -> io::Result<()> {
-    write!(to, "good")
+// What accepts or refuses.
+pub(crate) fn checked<W: Write>(to: &mut W, x: Result<(), Refusal>) -> io::Result<()> {
+    match x {
+        Ok(()) => write!(to, "good"),
+        Err(why) => refused(to, why),
+    }
+}
+
+// What makes so many bytes, or refuses.
+pub(crate) fn made<W: Write>(to: &mut W, x: Result<usize, Refusal>) -> io::Result<()> {
+    match x {
+        Ok(k) => write!(to, "{k}"),
+        Err(why) => refused(to, why),
+    }
 }
 
 pub(crate) fn refused<W: Write>(to: &mut W, why: Refusal) -> io::Result<()> {
-    write!(to, "refused {why}")
+    write!(to, "refused {}", u8::from(why))
 }
 
 // A line that is no case.

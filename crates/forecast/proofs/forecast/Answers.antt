@@ -21,6 +21,14 @@ none_left : (names : List ℕ) (es : List RamdumpTable64) (i : ℕ) (s : Result 
 unfolding add_all
 none_left names es i s h = rw drop_of_length-le refl
 
+pub returns : goal.returns
+returns c =
+    let names = c.args.names.now in
+    let es = c.args.entries.now in
+    let whole : Ok c.loop-e.sums ≡ add_all chunk names (start_of names) es =
+    sym (none_left names _ c.loop-e.e-index (Ok c.loop-e.sums) c.loop-e-test.false) ∙ c.loop-e.invariant in
+    tells forecast_told (whole ∙ sums_are chunk names es (omega arith))
+
 -- the names are malformed
 pub returns-in_err-sums : goal.returns-in_err-sums
 returns-in_err-sums c =
@@ -52,11 +60,3 @@ pub loop-e-preserved : goal.loop-e-preserved
 loop-e-preserved c =
     let e = c.in_ok-sums-2.ensures in
     rw e (one_added _ _ c.loop-e.e-index _ (Ok c.loop-e.sums) c.loop-e-test.true ∙ c.loop-e.invariant)
-
-pub returns : goal.returns
-returns c =
-    let names = c.args.names.now in
-    let es = c.args.entries.now in
-    let whole : Ok c.loop-e.sums ≡ add_all chunk names (start_of names) es =
-    sym (none_left names _ c.loop-e.e-index (Ok c.loop-e.sums) c.loop-e-test.false) ∙ c.loop-e.invariant in
-    tells forecast_told (whole ∙ sums_are chunk names es (omega arith))

@@ -1,55 +1,45 @@
--- `forecast::forecast_table` meets its contract: entry i is the first of those that were left, and behind the last none is left. Assumes nothing.
-use Rattle.std.proofs.Common.{◌≡◌, ℕ, suc, ◌+◌, ◌-◌, ◌<◌, ◌≤◌, List, length, refl, sym, ap, ◌∙◌, add-one, arith}
+-- `forecast::forecast_table` meets its contract: the search begins at the next selected entry, and goes on behind the one that is taken. Assumes nothing.
+use Rattle.std.proofs.Common.{◌≡◌, ℕ, ◌+◌, ◌-◌, length, refl, sym, ap, ◌∙◌, arith}
 use Rattle.std.proofs.lemmas.Result.{err_from_is_err_and}
-use Rattle.std.specs.Prelude.{Result, Ok, Err}
+use Rattle.std.specs.Prelude.{Ok, Err}
 use Rattle.field.specs.Field.{field_size}
-use Rattle.entry.specs.Entry.{entries_in, entry_in, entries_from, entries_of}
+use Rattle.entry.specs.Entry.{entries_in, entry_in, entries_of}
 use Rattle.entry.specs.declared.RamdumpTable64.{RamdumpTable64}
 use Rattle.entry.proofs.Laws.{entry_found, entry_told, length_entries}
+use Rattle.selection.proofs.Laws.{next_from}
 use Rattle.base.proofs.Telling.{tells}
-use Rattle.refusal.specs.declared.Refusal.{Refusal}
 use Rattle.forecast_sums.specs.Forecast.{forecast_of, forecast_chunk as chunk, forecast_told}
-use Rattle.forecast_sums.specs.Sums.{start_of, added, add_all}
-use Rattle.forecast_sums.specs.declared.Forecast.{Forecast}
+use Rattle.forecast_sums.specs.Sums.{start_of, more_of, add_all}
 use Rattle.forecast_sums.proofs.Laws.{sums_are, stays}
+use Rattle.forecast.proofs.Search.{begins, goes_on, refused, finished}
 use Rattle.forecast.proofs.forecast_table.Goals as goal
 
--- of the n entries from i on, the first is added and the rest are left
-one_added : (names t : List ℕ) (f n i : ℕ) (s : Result Forecast Refusal) → i < n
-    → add_all chunk names (added chunk names s (entry_in f t i)) (entries_from f t (n - (i + 1)) (i + 1)) ≡ add_all chunk names s (entries_from f t (n - i) i)
-unfolding add_all entries_from
-one_added names t f n i s h =
-    let k : n - i ≡ suc (n - (i + 1)) = omega arith in
-    rw (k, add-one i) refl
-
-none_left : (names t : List ℕ) (f n i : ℕ) (s : Result Forecast Refusal) → n ≤ i → add_all chunk names s (entries_from f t (n - i) i) ≡ s
-unfolding add_all entries_from
-none_left names t f n i s h =
-    let e : n - i ≡ 0 = omega arith in
-    rw e refl
+pub loop-i-init : goal.loop-i-init
+loop-i-init c =
+    let a = c.args in
+    begins chunk a.names.now (field_size a.width) a.table.now c.entries_in-n.result c.next_selected-i.result c.in_ok-sums.sums _ c.entries_in-n.ensures
+    c.next_selected-i.ensures (sym c.start.ensures ∙ c.in_ok-sums.was)
 
 pub unwrap-e-requires : goal.unwrap-e-requires
 unwrap-e-requires c =
     let a = c.args in
     let l = c.loop-i in
-    let below : l.i < entries_in (field_size a.width) (length a.table.now) = omega (arith, c.loop-i-test.true, c.entries_in-i-end.ensures) in
-    rw (c.entry_at.ensures ∙ entry_found (field_size a.width) a.table.now l.i below) refl
+    rw (c.entry_at.ensures ∙ entry_found (field_size a.width) a.table.now l.i (omega (arith, c.loop-i-test.true, c.entries_in-n.ensures))) refl
 
 -- the names are malformed
 pub returns-in_err-sums : goal.returns-in_err-sums
 returns-in_err-sums c =
-    let a = c.args in
-    let names = a.names.now in
-    let f = field_size a.width in
-    let t = a.table.now in
-    let n : ℕ = entries_in f (length t) in
+    let names = c.args.names.now in
+    let f = field_size c.args.width in
+    let t = c.args.table.now in
     let p = err_from_is_err_and c.from_residual.result c.from_residual.ensures.1 in
     let w = c.in_err-sums.was in
     let q : forecast_of chunk (entries_of f t) names ≡ Err c.in_err-sums.field-0.0 =
-    sym (sums_are chunk names (entries_of f t) (rw (length_entries f t n 0) (omega arith))) ∙ rw (← c.start.ensures, w) (stays chunk names (entries_of f t) _) in
+    sym (sums_are chunk names (entries_of f t) (rw (length_entries f t (entries_in f (length t)) 0) (omega arith)))
+    ∙ rw (← c.start.ensures, w) (stays chunk names (entries_of f t) _) in
     tells forecast_told (p.1 ∙ ap Err p.2 ∙ sym q)
 
--- an entry is refused
+-- a selected entry is refused
 pub returns-in_err-sums-2 : goal.returns-in_err-sums-2
 returns-in_err-sums-2 c =
     let a = c.args in
@@ -57,19 +47,23 @@ returns-in_err-sums-2 c =
     let names = a.names.now in
     let f = field_size a.width in
     let t = a.table.now in
-    let n : ℕ = entries_in f (length t) in
+    let n : ℕ = c.entries_in-n.result in
     let p = err_from_is_err_and c.from_residual-in_err-sums-2.result c.from_residual-in_err-sums-2.ensures.1 in
-    let below : l.i < n = omega (arith, c.loop-i-test.true, c.entries_in-i-end.ensures) in
     let x : c.unwrap-e.result ≡ entry_in f t l.i = (entry_told f t l.i (sym c.entry_at.ensures ∙ c.unwrap-e.ensures)).1 in
     let w = c.in_err-sums-2.was in
-    let e : added chunk names (Ok l.sums) (entry_in f t l.i) ≡ Err c.in_err-sums-2.field-0.0 =
-    ap (λ (y : RamdumpTable64). added chunk names (Ok l.sums) y) (sym x) ∙ sym c.add.ensures ∙ w in
+    let e : more_of chunk l.sums (entry_in f t l.i).len ≡ Err c.in_err-sums-2.field-0.0 =
+    ap (λ (y : RamdumpTable64). more_of chunk l.sums y.len) (sym x) ∙ sym c.more.ensures ∙ w in
     let q : forecast_of chunk (entries_of f t) names ≡ Err c.in_err-sums-2.field-0.0 =
-    sym (sums_are chunk names (entries_of f t) (rw (length_entries f t n 0) (omega (arith, c.entries_in-i-end.ensures))))
-    ∙ sym l.invariant
-    ∙ sym (one_added names t f n l.i (Ok l.sums) below)
-    ∙ rw e (stays chunk names (entries_from f t (n - (l.i + 1)) (l.i + 1)) _) in
+    sym (sums_are chunk names (entries_of f t) (rw (length_entries f t (entries_in f (length t)) 0) (omega (arith, c.entries_in-n.ensures))))
+    ∙ refused chunk names f t n l.i l.sums _ _ (omega (arith, c.entries_in-n.ensures)) c.loop-i-test.true l.invariant e in
     tells forecast_told (p.1 ∙ ap Err p.2 ∙ sym q)
+
+pub loop-i-smaller : goal.loop-i-smaller
+loop-i-smaller c =
+    let a = c.args in
+    let l = c.loop-i in
+    let from = next_from (field_size a.width) a.names.now a.table.now (c.entries_in-n.result - (l.i + 1)) (l.i + 1) in
+    omega (arith, c.loop-i-test.true, c.next_selected-i-in-loop-i.ensures, from)
 
 pub loop-i-preserved : goal.loop-i-preserved
 loop-i-preserved c =
@@ -77,14 +71,13 @@ loop-i-preserved c =
     let l = c.loop-i in
     let f = field_size a.width in
     let t = a.table.now in
-    let names = a.names.now in
-    let n : ℕ = entries_in f (length t) in
-    let below : l.i < n = omega (arith, c.loop-i-test.true, c.entries_in-i-end.ensures) in
+    let n : ℕ = c.entries_in-n.result in
     let x : c.unwrap-e.result ≡ entry_in f t l.i = (entry_told f t l.i (sym c.entry_at.ensures ∙ c.unwrap-e.ensures)).1 in
     let w = c.in_ok-sums-2.was in
-    let e : added chunk names (Ok l.sums) (entry_in f t l.i) ≡ Ok c.in_ok-sums-2.sums =
-    ap (λ (y : RamdumpTable64). added chunk names (Ok l.sums) y) (sym x) ∙ sym c.add.ensures ∙ w in
-    rw (← e) (one_added names t f n l.i (Ok l.sums) below ∙ l.invariant)
+    let e : more_of chunk l.sums (entry_in f t l.i).len ≡ Ok c.in_ok-sums-2.sums =
+    ap (λ (y : RamdumpTable64). more_of chunk l.sums y.len) (sym x) ∙ sym c.more.ensures ∙ w in
+    goes_on chunk a.names.now f t n l.i _ l.sums c.in_ok-sums-2.sums _ (omega (arith, c.entries_in-n.ensures)) c.loop-i-test.true l.invariant e
+    c.next_selected-i-in-loop-i.ensures
 
 pub returns : goal.returns
 returns c =
@@ -93,8 +86,7 @@ returns c =
     let f = field_size a.width in
     let t = a.table.now in
     let names = a.names.now in
-    let n : ℕ = entries_in f (length t) in
     let whole : Ok l.sums ≡ add_all chunk names (start_of names) (entries_of f t) =
-    sym (none_left names t f n l.i (Ok l.sums) (omega (arith, c.loop-i-test.false, c.entries_in-i-end.ensures))) ∙ l.invariant in
+    sym (finished chunk names f t c.entries_in-n.result l.i (Ok l.sums) c.loop-i-test.false) ∙ l.invariant.same in
     tells forecast_told
-    (whole ∙ sums_are chunk names (entries_of f t) (rw (length_entries f t n 0) (omega (arith, c.entries_in-i-end.ensures))))
+    (whole ∙ sums_are chunk names (entries_of f t) (rw (length_entries f t (entries_in f (length t)) 0) (omega (arith, c.entries_in-n.ensures))))

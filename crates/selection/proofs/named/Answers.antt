@@ -9,7 +9,8 @@ use Rattle.bundle.specs.declared.Slot.TheVariants as S
 use Rattle.selection.specs.Selection.{low}
 use Rattle.selection.proofs.Laws.{named_from, named_done, named_here, named_other, named_unequal, named_without, named_all, lowered_is}
 use Rattle.selection.proofs.named.Goals as goal
-use Rattle.selection.proofs.named.Goals.{in-At+else-size-stem, in_default, else-size-stem-via-then-size-stem+else-eq_ignore_ascii_case, else-size-stem-via-else-size-stem}
+use Rattle.selection.proofs.named.Goals.{in-At+else-size-stem, in_default}
+use Rattle.selection.proofs.named.Goals.{else-size-stem-via-then-size-stem+else-eq_ignore_ascii_case, else-size-stem-via-else-size-stem}
 
 -- a slot that is not `At` has no name
 nameless : (b : List ℕ) (n : ℕ) (stem : List ℕ) (i : ℕ) (x : Slot) → i < n → ((k l : ℕ) → x ≡ S.At k l → ⊥) → slot_of b i ≡ x

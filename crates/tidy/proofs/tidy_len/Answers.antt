@@ -1,25 +1,29 @@
 -- `tidy::tidy_len` meets its contract: by the check's answer, then by the sum. Assumes nothing.
-use mathlib.Core.Path.{◌≡◌, sym, ap, ◌∙◌}
-use mathlib.Core.Bool.{true}
+use mathlib.Core.Path.{◌≡◌, refl, sym, ap, ◌∙◌}
+use mathlib.Core.Bool.{Bool, true, false}
 use mathlib.Core.List.{List}
 use Prim.Native.Nat.{ℕ, ◌+◌, ◌*◌, ◌<◌, ◌≤◌, min}
 use native.Mathlib.Omega.{arith}
 use lib.ListN.{length}
 use Rattle.base.proofs.Telling.{tells}
 use Rattle.bundle.specs.Bundle.{count_of, well_formed}
-use Rattle.bundle.proofs.Laws.{checked_good, checked_refused, formed}
+use Rattle.bundle.proofs.Laws.{formed}
 use Rattle.writer.specs.Writer.{data_of, most_data}
 use Rattle.tidied.specs.Tidy.{first_contents, tidy_bytes, tidy_data, tidied_told}
-use Rattle.tidied.proofs.Laws.{length_tidy, len_malformed, len_passes, len_made}
+use Rattle.tidied.proofs.Laws.{length_tidy, len_passes, len_made}
 use Rattle.tidy.proofs.tidy_len.Goals as goal
 use Rattle.tidy.proofs.tidy_len.Goals.{After-data_size-size}
-use Rattle.std.specs.Prelude.{Ok}
+use Rattle.std.specs.Prelude.{Result, Ok, Err}
+use Rattle.std.specs.Result.{result_or}
+use Rattle.base.specs.Choice.{pick}
+use Rattle.refusal.specs.Refusal.{accepted}
+use Rattle.refusal.specs.declared.Refusal.{Refusal}
+use Rattle.refusal.specs.declared.Refusal.TheVariants as Refusal
 
-pub returns-in_default : goal.returns-in_default
-returns-in_default c =
-    let B : List ℕ = c.args.set.now in
-    let e = sym c.check_images.ensures.is ∙ c.in_default.is in
-    tells tidied_told (sym (len_malformed B (checked_refused (well_formed true B) 1 _ e)))
+-- what was not refused is good
+found : (b : Bool) (why other : Refusal) {x : Unit} → result_or (pick b accepted (Err why)) (Err other) ≡ Ok x → b ≡ true
+found true why other e = refl
+found false why other e = let z : ◌≡◌ {A = ℕ} 0 1 = cc in absurd (omega arith)
 
 -- behind the check: the set is well-formed, and the sum is the tidy form's, or it passes the most
 pub record Measured (set : List ℕ) (n size : ℕ) : Type 0 where
@@ -31,9 +35,8 @@ measured : (c : After-data_size-size)
     → Measured c.args.set.now c.slot_count-n.result c.data_size-size.result
 measured c =
     let B : List ℕ = c.args.set.now in
-    let e = sym c.check_images.ensures.is ∙ c.in-Good.is in
     record {
-      good = checked_good (well_formed true B) 1 e;
+      good = found (well_formed true B) Refusal.ImageSet Refusal.TidySet (sym (c.or.ensures ∙ ap (λ (x : Result Unit Refusal). result_or x (Err Refusal.TidySet)) c.check_images.ensures.is) ∙ c.in_ok-or.was);
       count = c.slot_count-n.ensures;
       sum = c.data_size-size.ensures ∙ ap (λ (k : ℕ). min (most_data + 1) (length (data_of (first_contents B k)))) c.slot_count-n.ensures;
     }
