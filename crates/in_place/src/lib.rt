@@ -5,7 +5,8 @@ ghost use Rattle.std.specs.Prelude.{◌≡◌};
 ghost use Rattle.raw.specs.Raw.{told_of, stepped_at, told_in};
 ghost use Rattle.in_place.specs.Place.{raw_at, waits_at, in_region, region_at, counted_at};
 
-use raw::{RawPlaced, RawSession, RawStepped, RawTold, bit, told};
+use field::Width;
+use raw::{RawPlaced, RawSession, RawStepped, RawTold, told};
 use session::{Counted, Region};
 
 // A session in place: head has its mode, command, backend and phase; numbers its memory reads, count, place, base, length, bytes done and outstanding,
@@ -46,7 +47,7 @@ pub const REGION: u32 = 5;
 pub fn raw_at(head: &[u32; 4], numbers: &[u64; 9], window: &[u8; 48]) -> RawSession
     ensures { result ≡ raw_at head.now numbers.now window.now }
 {
-    let bytes = *window;
+    let window = *window;
     RawSession {
         mode: head[MODE],
         command: head[COMMAND],
@@ -61,7 +62,7 @@ pub fn raw_at(head: &[u32; 4], numbers: &[u64; 9], window: &[u8; 48]) -> RawSess
         outstanding: numbers[OUTSTANDING],
         due: numbers[DUE],
         width: numbers[WIDTH],
-        window: bytes,
+        window,
     }
 }
 
@@ -101,39 +102,28 @@ pub fn put_back(
 pub fn count(numbers: &mut [u64; 9], c: Counted) -> RawTold
     ensures { (result ≡ told_of c.taken c.answer) × (numbers.new ≡ counted_at numbers.old c) }
 {
-    let x = c.region;
-    let answer = c.answer;
-    let count = numbers[COUNT];
-    let at = numbers[AT];
-    let base = numbers[BASE];
-    let len = numbers[LEN];
-    let width = numbers[WIDTH];
     *numbers = [
         c.reads,
-        count,
-        at,
-        base,
-        len,
-        x.done,
-        x.outstanding,
-        bit(x.due),
-        width,
+        numbers[COUNT],
+        numbers[AT],
+        numbers[BASE],
+        numbers[LEN],
+        c.region.done,
+        c.region.outstanding,
+        u64::from(c.region.due),
+        numbers[WIDTH],
     ];
-    told(c.taken, answer)
+    told(c.taken, c.answer)
 }
 
 // The numbers of a session in a region.
 pub fn in_region(head: &[u32; 4], numbers: &[u64; 9]) -> bool
     ensures { result ≡ in_region head.now numbers.now }
 {
-    if head[PHASE] == REGION {
-        if numbers[DUE] < 2 {
-            if raw::is_width(numbers[WIDTH]) {
-                return raw::is_opening(head[MODE], head[COMMAND], head[BACKEND]);
-            }
-        }
-    }
-    false
+    head[PHASE] == REGION
+        && numbers[DUE] < 2
+        && Width::try_from(numbers[WIDTH]).is_ok()
+        && raw::is_opening(head[MODE], head[COMMAND], head[BACKEND])
 }
 
 // The region that the numbers tell.

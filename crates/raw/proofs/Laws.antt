@@ -8,6 +8,8 @@ use borrow.Author.Tests.{eqb-true, eqb-false, ltb-true}
 use lib.Dec.{ltb, eqb}
 use Rattle.base.specs.Choice.{pick}
 use Rattle.base.proofs.Ranges.{by_test, by_then}
+use Rattle.std.specs.Result.{result_unwrap_or}
+use Rattle.field.specs.Width.{width_named}
 use Rattle.field.specs.declared.Width.{Width}
 use Rattle.field.specs.declared.Width.TheVariants as WI
 use Rattle.command.specs.Command.{mode_number, mode_of, command_of}
@@ -54,6 +56,10 @@ use Rattle.raw.specs.declared.RawSession.{RawSession}
 use Rattle.refusal.specs.declared.Refusal.{Refusal}
 use Rattle.std.specs.Prelude.{Option, Some, None}
 use Rattle.command.specs.declared.SaharaCmdModeCmd.{SaharaCmdModeCmd}
+
+-- the width that a number is read as is that which it names, and 64 bits where it names none
+pub width_read : (n : ℕ) → result_unwrap_or (width_named n) WI.Bits64 ≡ width_of n
+width_read n = by_test (eqb n 32) (λ e. rw e refl) (λ e. by_test (eqb n 64) (λ f. rw (e, f) refl) (λ f. rw (e, f) refl))
 
 -- ---- a session's numbers are read back as it
 

@@ -9,15 +9,12 @@ use field::Width;
 use raw_records::RawForecast;
 
 // Of a table of a width of 32 or 64 bits. Of any other width there is no entry.
+#[tactic(auto, unfolding(crate::specs::RawForecast::forecast_raw))]
 pub fn forecast_table(table: &[u8], width: u64, names: &[u8]) -> RawForecast
     ensures { result ≡ raw_forecast (forecast_raw table.now width names.now) }
 {
-    if !raw::is_width(width) {
-        return raw_records::raw_forecast(forecast::forecast_table(
-            &table[..0],
-            Width::Bits64,
-            names,
-        ));
-    }
-    raw_records::raw_forecast(forecast::forecast_table(table, raw::width_of(width), names))
+    RawForecast::from(match Width::try_from(width) {
+        Ok(width) => forecast::forecast_table(table, width, names),
+        Err(_) => forecast::forecast(&[], names),
+    })
 }

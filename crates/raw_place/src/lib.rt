@@ -2,15 +2,14 @@
 // numbers, by the same function as a session's; all others are left to the step that reads the session and puts it back.
 #![tactic(auto)]
 
-ghost use Rattle.std.specs.Prelude.{◌≡◌, true, false};
-ghost use Rattle.base.specs.Choice.{pick};
-ghost use Rattle.bundle.specs.Bundle.{well_formed};
+ghost use Rattle.std.specs.Prelude.{◌≡◌};
 ghost use Rattle.raw.specs.Raw.{stepped_at, told_in};
 ghost use Rattle.in_place.specs.Place.{raw_at, waits_at};
 ghost use Rattle.raw_step.specs.RawStep.{raw_outcome, step_raw, wanted_raw};
 ghost use Rattle.raw_place.specs.Place.{ready_at};
 
-use bundle::{Checked, check_images, check_names};
+use bundle::{check_images, check_names};
+use field::Width;
 use in_place::{
     BACKEND, COMMAND, COUNT, MODE, PHASE, READS, REGION, WIDTH, count, in_region, placed,
     region_at, waits_at,
@@ -19,27 +18,11 @@ use raw::{RawPlaced, RawSession, told};
 use region_phase::{Advance, advance_region};
 use session::Answer;
 
-// The image set and the names are well formed.
-fn formed(set: &[u8], names: &[u8]) -> bool
-    ensures { result ≡ pick (well_formed true set.now) (well_formed false names.now) false }
-{
-    let Ok(()) = check_images(set) else {
-        return false;
-    };
-    let Ok(()) = check_names(names) else {
-        return false;
-    };
-    true
-}
-
 // A session in a region, and none of 1 and 2 refuses its step.
 fn ready(head: &[u32; 4], numbers: &[u64; 9], set: &[u8], names: &[u8]) -> bool
     ensures { result ≡ ready_at head.now numbers.now set.now names.now }
 {
-    if in_region(head, numbers) {
-        return formed(set, names);
-    }
-    false
+    in_region(head, numbers) && check_images(set).is_ok() && check_names(names).is_ok()
 }
 
 // A step with the session in place: mode, command, backend and phase; reads, count, at, base, len, done, outstanding, due and width; the window. In a region,
@@ -69,27 +52,28 @@ pub fn step_in_place(
     }
     let x = region_at(numbers);
     let opening = raw::opening_of(head[MODE], head[COMMAND], head[BACKEND]);
-    let width = raw::width_of(numbers[WIDTH]);
+    let width = Width::try_from(numbers[WIDTH]).unwrap_or(Width::Bits64);
     let k = numbers[COUNT] as usize;
     let came = delivery.len();
-    let a = advance_region(width, opening, numbers[READS], k, x, came, table, out);
-    if let Advance::To(c) = a {
-        let t = count(numbers, c);
-        return placed(t, numbers);
+    match advance_region(width, opening, numbers[READS], k, x, came, table, out) {
+        Ok(Advance::To(c)) => {
+            let t = count(numbers, c);
+            placed(t, numbers)
+        }
+        Ok(Advance::Waits) => placed(told(0, Answer::Go), numbers),
+        _ => {
+            // in a region no step looks at the image set and the names, and these were judged: empty ones are judged faster than they would be again
+            let empty = [0u8; 8];
+            let t = raw_step::step(
+                head, numbers, window, delivery, &empty, &empty, table, reply, out,
+            );
+            placed(t, numbers)
+        }
     }
-    if let Advance::Waits = a {
-        let t = told(0, Answer::Go);
-        return placed(t, numbers);
-    }
-    // in a region no step looks at the image set and the names, and these were judged: empty ones are judged faster than they would be again
-    let empty = [0u8; 8];
-    let t = raw_step::step(
-        head, numbers, window, delivery, &empty, &empty, table, reply, out,
-    );
-    placed(t, numbers)
 }
 
 // How many bytes the next step asks for: 0 where it needs none.
+#[tactic(auto, using(raw_step::proofs::Laws::wanted_no, raw_step::proofs::Laws::wanted_is))]
 pub fn wanted(s: RawSession) -> usize
     ensures { result ≡ wanted_raw s }
 {
@@ -100,14 +84,16 @@ pub fn wanted(s: RawSession) -> usize
 }
 
 // The same of a session in place. In a region, where it is asked most, the numbers are at hand.
+#[tactic(auto, using(crate::proofs::Repeats::wanted_none, crate::proofs::Repeats::wanted_at))]
 pub fn wanted_in_place(head: &[u32; 4], numbers: &[u64; 9], window: &[u8; 48]) -> usize
     ensures { result ≡ wanted_raw (raw_at head.now numbers.now window.now) }
 {
-    if head[PHASE] == REGION {
-        if in_region(head, numbers) {
-            return waits_at(numbers) as usize;
-        }
-        return 0;
+    if head[PHASE] != REGION {
+        return wanted(in_place::raw_at(head, numbers, window));
     }
-    wanted(in_place::raw_at(head, numbers, window))
+    if in_region(head, numbers) {
+        waits_at(numbers) as usize
+    } else {
+        0
+    }
 }

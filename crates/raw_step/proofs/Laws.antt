@@ -15,6 +15,7 @@ use Rattle.session.specs.Step.{step_of, closed_of}
 use Rattle.session.specs.Guard.{phase_step}
 use Rattle.waiting.specs.Wanted.{wanted_of}
 use Rattle.session.proofs.Parts.{step_1, step_2, step_phase}
+use Rattle.refusal.specs.declared.Refusal.{Refusal}
 use Rattle.raw.specs.declared.RawSession.{RawSession}
 use Rattle.raw.specs.declared.RawStepped.{RawStepped}
 use Rattle.raw.specs.Raw.{raw_of, phase_of, session_of, is_session, raw_stepped, refused_raw}
@@ -36,26 +37,26 @@ module _ (r : RawSession) (d set names t y o : List ℕ) where
   step_is e = rw e refl
 
   -- refused in the step of a session, and of any other numbers
-  refused_both : (why : ℕ) → step_of (session_of r) d set names t y o ≡ untouched (session_of r) why t y o → no_session set names o ≡ why
+  refused_both : (why : Refusal) → step_of (session_of r) d set names t y o ≡ untouched (session_of r) why t y o → no_session set names o ≡ why
       → raw_outcome (refused_raw r why) t y o ≡ step_raw r d set names t y o
   refused_both why h n =
       by_test (is_session r)
       (λ e. ap (λ (x : RawStepped). raw_outcome x t y o) (refused_told r why e) ∙ ap raw_outcome_of (sym h) ∙ step_is e)
-      (λ e. ap (λ (k : ℕ). raw_outcome (refused_raw r k) t y o) (sym n) ∙ step_no e)
+      (λ e. ap (λ (k : Refusal). raw_outcome (refused_raw r k) t y o) (sym n) ∙ step_no e)
 
   -- the image set is malformed, the names are
-  pub step_images : well_formed true set ≡ false → raw_outcome (refused_raw r 1) t y o ≡ step_raw r d set names t y o
-  step_images f = refused_both 1 (step_1 (session_of r) d set names t y o f) (rw f refl)
+  pub step_images : well_formed true set ≡ false → raw_outcome (refused_raw r Refusal.ImageSet) t y o ≡ step_raw r d set names t y o
+  step_images f = refused_both Refusal.ImageSet (step_1 (session_of r) d set names t y o f) (rw f refl)
 
-  pub step_names : well_formed true set ≡ true → well_formed false names ≡ false → raw_outcome (refused_raw r 2) t y o ≡ step_raw r d set names t y o
-  step_names f g = refused_both 2 (step_2 (session_of r) d set names t y o f g) (rw (f, g) refl)
+  pub step_names : well_formed true set ≡ true → well_formed false names ≡ false → raw_outcome (refused_raw r Refusal.NameList) t y o ≡ step_raw r d set names t y o
+  step_names f g = refused_both Refusal.NameList (step_2 (session_of r) d set names t y o f g) (rw (f, g) refl)
 
   -- behind them, of no session and of a session
   module _ (f : well_formed true set ≡ true) (g : well_formed false names ≡ true) where
-    pub step_none : is_session r ≡ false → raw_outcome (refused_raw r (pick (ltb (length o) 48) 3 18)) t y o ≡ step_raw r d set names t y o
+    pub step_none : is_session r ≡ false → raw_outcome (refused_raw r (pick (ltb (length o) 48) Refusal.OutBuffer Refusal.Limit)) t y o ≡ step_raw r d set names t y o
     step_none e =
-        let n : no_session set names o ≡ pick (ltb (length o) 48) 3 18 = rw (f, g) refl in
-        ap (λ (k : ℕ). raw_outcome (refused_raw r k) t y o) (sym n) ∙ step_no e
+        let n : no_session set names o ≡ pick (ltb (length o) 48) Refusal.OutBuffer Refusal.Limit = rw (f, g) refl in
+        ap (λ (k : Refusal). raw_outcome (refused_raw r k) t y o) (sym n) ∙ step_no e
 
     pub step_formed : is_session r ≡ true → raw_outcome_of (phase_step (session_of r) d set names t y o (phase_of r)) ≡ step_raw r d set names t y o
     step_formed e =
@@ -63,7 +64,7 @@ module _ (r : RawSession) (d set names t y o : List ℕ) where
         ∙ ap raw_outcome_of (sym (step_phase (session_of r) d set names t y o f g))
         ∙ step_is e
 
-pub closed_no : (r : RawSession) → is_session r ≡ false → refused_raw r 18 ≡ closed_raw r
+pub closed_no : (r : RawSession) → is_session r ≡ false → refused_raw r Refusal.Limit ≡ closed_raw r
 unfolding closed_raw
 closed_no r e = rw e refl
 

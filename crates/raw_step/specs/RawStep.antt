@@ -7,6 +7,7 @@ use Rattle.bundle.specs.Bundle.{well_formed}
 use Rattle.session.specs.Outcome.{Outcome}
 use Rattle.session.specs.Step.{step_of, closed_of}
 use Rattle.waiting.specs.Wanted.{wanted_of}
+use Rattle.refusal.specs.declared.Refusal.{Refusal}
 use Rattle.raw.specs.declared.RawSession.{RawSession}
 use Rattle.raw.specs.declared.RawStepped.{RawStepped}
 use Rattle.raw.specs.Raw.{session_of, is_session, raw_stepped, refused_raw}
@@ -26,8 +27,10 @@ abbrev pub raw_outcome_of : Outcome → RawOutcome
 raw_outcome_of x = raw_outcome (raw_stepped x.stepped) x.table x.reply x.out
 
 -- what numbers that are no session's are refused with: image set, names and out buffer
-abbrev pub no_session : List ℕ → List ℕ → List ℕ → ℕ
-no_session set names o = pick (not (well_formed true set)) 1 (pick (not (well_formed false names)) 2 (pick (ltb (length o) 48) 3 18))
+abbrev pub no_session : List ℕ → List ℕ → List ℕ → Refusal
+no_session set names o =
+    pick (not (well_formed true set)) Refusal.ImageSet
+    (pick (not (well_formed false names)) Refusal.NameList (pick (ltb (length o) 48) Refusal.OutBuffer Refusal.Limit))
 
 -- the step: session, delivery, image set, names, table, reply and out buffers
 unfoldable pub step_raw : RawSession → List ℕ → List ℕ → List ℕ → List ℕ → List ℕ → List ℕ → RawOutcome
@@ -36,7 +39,7 @@ step_raw r d set names t y o =
 
 -- the channel's end. No buffer is lent here, and what is no session cannot be ended: 18
 unfoldable pub closed_raw : RawSession → RawStepped
-closed_raw r = pick (is_session r) (raw_stepped (closed_of (session_of r))) (refused_raw r 18)
+closed_raw r = pick (is_session r) (raw_stepped (closed_of (session_of r))) (refused_raw r Refusal.Limit)
 
 -- the bytes to read for the next step; what is no session wants none
 unfoldable pub wanted_raw : RawSession → ℕ

@@ -1,10 +1,10 @@
 -- What crosses to C and is told by no other crate: entries, the next selected one and the region sheet by a width that is a number (document 02, requests 2
 -- and 4), the tidy form of an image set (its request 6), and the reset packet, built alone (document 01, "Building").
-use Rattle.std.specs.Prelude.{ℕ, ◌+◌, ◌-◌, List, Ok}
+use Rattle.std.specs.Prelude.{ℕ, ◌+◌, ◌-◌, List, Option, None, Ok}
 use Rattle.base.specs.Choice.{pick}
 use Rattle.field.specs.Field.{field_size}
-use Rattle.entry.specs.Entry.{missing, entry_at}
-use Rattle.entry.specs.declared.EntryAt.{EntryAt}
+use Rattle.entry.specs.Entry.{entry_at}
+use Rattle.entry.specs.declared.RamdumpTable64.{RamdumpTable64}
 use Rattle.selection.specs.Selection.{next_of}
 use Rattle.raw.specs.Raw.{width_of, is_width}
 use Rattle.build.specs.declared.Request.TheVariants as Q
@@ -16,8 +16,8 @@ use Rattle.sheet.specs.Sheet.{SheetOutcome, sheet_outcome, sheet_of}
 use Rattle.tidied.specs.Tidy.{TidyOutcome}
 
 -- entry i of a table; of a number that is no width there is none
-unfoldable pub entry_raw : List ℕ → ℕ → ℕ → EntryAt
-entry_raw t n i = pick (is_width n) (entry_at (field_size (width_of n)) t i) missing
+unfoldable pub entry_raw : List ℕ → ℕ → ℕ → Option RamdumpTable64
+entry_raw t n i = pick (is_width n) (entry_at (field_size (width_of n)) t i) None
 
 -- the first selected from `from` on and before `entries`; of a number that is no width none is
 unfoldable pub next_raw : List ℕ → ℕ → ℕ → List ℕ → ℕ → ℕ

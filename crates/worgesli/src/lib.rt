@@ -27,13 +27,16 @@ ghost use Rattle.worgesli.specs.Worgesli.{
 
 use build::sahara_reset;
 use bundle::{check_images, check_names};
-use entry::{entry_at, no_entry};
+use entry::entry_at;
+use field::Width;
 use image::{ImageId, image_range};
 use packet::sahara_parse_packet;
 use raw::{RawPlaced, RawSession, RawStepped};
 use raw_packet::RawPacket;
-use raw_records::{RawEntry, RawForecast, RawRange, RawSheet, RawTidied};
-use sheet::{Sheet, region_sheet};
+use raw_records::{RawEntry, RawForecast, RawRange, RawSheet, RawTidied, refused_number};
+use refusal::Refusal;
+use selection::next_selected;
+use sheet::region_sheet;
 
 // The number of this interface: another where a struct or a function of it is another.
 #[unsafe(no_mangle)]
@@ -125,15 +128,15 @@ pub extern "C" fn worgesli_step_in_place(
 }
 
 // The channel was closed.
+#[tactic(auto, using(raw_step::proofs::Laws::closed_no, raw_step::proofs::Laws::closed_is))]
 #[unsafe(no_mangle)]
 pub extern "C" fn worgesli_closed(s: RawSession) -> RawStepped
     ensures { result ≡ closed_raw s }
 {
     if !raw::is_session(s) {
-        return raw::refused(s, 18);
+        return raw::refused(s, Refusal::Limit);
     }
-    let t = host::closed(raw::session_of(s));
-    raw::raw_stepped(t)
+    RawStepped::from(host::closed(raw::session_of(s)))
 }
 
 // Whether the numbers are a session's.
@@ -168,14 +171,14 @@ pub extern "C" fn worgesli_wanted_in_place(
 pub extern "C" fn worgesli_check_images(set: &[u8]) -> u32
     ensures { result ≡ checked_number (images_checked set.now) }
 {
-    raw_records::checked_number(check_images(set))
+    refused_number(check_images(set))
 }
 
 #[unsafe(no_mangle)]
 pub extern "C" fn worgesli_check_names(names: &[u8]) -> u32
     ensures { result ≡ checked_number (names_checked names.now) }
 {
-    raw_records::checked_number(check_names(names))
+    refused_number(check_names(names))
 }
 
 // Where the bytes that a read asks for stand in the set.
@@ -183,22 +186,24 @@ pub extern "C" fn worgesli_check_names(names: &[u8]) -> u32
 pub extern "C" fn worgesli_image_range(set: &[u8], id: u64, offset: u64, len: u64) -> RawRange
     ensures { result ≡ raw_range (range_of set.now id offset len) }
 {
-    raw_records::raw_range(image_range(set, ImageId(id), offset, len))
+    RawRange::from(image_range(set, ImageId(id), offset, len))
 }
 
 // Entry i of a table of a width of 32 or 64 bits; of any other width there is none.
+#[tactic(auto, unfolding(crate::specs::Worgesli::entry_raw))]
 #[unsafe(no_mangle)]
 pub extern "C" fn worgesli_entry_at(table: &[u8], width: u64, i: usize) -> RawEntry
     ensures { result ≡ raw_entry (entry_raw table.now width i) }
 {
-    if !raw::is_width(width) {
-        return raw_records::raw_entry(no_entry());
-    }
-    raw_records::raw_entry(entry_at(table, raw::width_of(width), i))
+    RawEntry::from(match Width::try_from(width) {
+        Ok(width) => entry_at(table, width, i),
+        Err(_) => None,
+    })
 }
 
 // The first selected entry from `from` on and before `entries`, of a table of a width of 32 or 64 bits; the search ends with the table. Of any other width none
 // is selected.
+#[tactic(auto, unfolding(crate::specs::Worgesli::next_raw))]
 #[unsafe(no_mangle)]
 pub extern "C" fn worgesli_next_selected(
     table: &[u8],
@@ -209,21 +214,22 @@ pub extern "C" fn worgesli_next_selected(
 ) -> usize
     ensures { result ≡ next_raw table.now width entries names.now from }
 {
-    if !raw::is_width(width) {
-        return if from < entries { entries } else { from };
+    match Width::try_from(width) {
+        Ok(width) => next_selected(table, width, entries, names, from),
+        Err(_) => from.max(entries),
     }
-    selection::next_selected(table, raw::width_of(width), entries, names, from)
 }
 
 // The region sheet of a table of a width of 32 or 64 bits, written to a page. Of any other width there is no entry, and nothing is written.
+#[tactic(auto, unfolding(crate::specs::Worgesli::sheet_raw))]
 #[unsafe(no_mangle)]
 pub extern "C" fn worgesli_region_sheet(table: &[u8], width: u64, page: &mut [u8]) -> RawSheet
     ensures { page_outcome result page.new ≡ crossed (sheet_raw table.now width page.old) }
 {
-    if !raw::is_width(width) {
-        return raw_records::raw_sheet(Ok(0));
-    }
-    raw_records::raw_sheet(region_sheet(table, raw::width_of(width), page))
+    RawSheet::from(match Width::try_from(width) {
+        Ok(width) => region_sheet(table, width, page),
+        Err(_) => Ok(0),
+    })
 }
 
 // How large the fetch of a table of a width of 32 or 64 bits will be, with these names. Of any other width there is no entry.
@@ -239,7 +245,7 @@ pub extern "C" fn worgesli_forecast_table(table: &[u8], width: u64, names: &[u8]
 pub extern "C" fn worgesli_tidy(set: &[u8], to: &mut [u8]) -> RawTidied
     ensures { room_outcome result to.new ≡ tidy_raw (tidy_of set.now to.old) }
 {
-    raw_records::raw_tidied(tidy::tidy(set, to))
+    RawTidied::from(tidy::tidy(set, to))
 }
 
 // How long it is.
@@ -247,7 +253,7 @@ pub extern "C" fn worgesli_tidy(set: &[u8], to: &mut [u8]) -> RawTidied
 pub extern "C" fn worgesli_tidy_len(set: &[u8]) -> RawTidied
     ensures { result ≡ raw_tidied (tidy_len_of set.now) }
 {
-    raw_records::raw_tidied(tidy::tidy_len(set))
+    RawTidied::from(tidy::tidy_len(set))
 }
 
 // Whether the bytes are UTF-8.
@@ -263,13 +269,14 @@ pub extern "C" fn worgesli_utf8(bytes: &[u8]) -> bool
 pub extern "C" fn worgesli_parse_packet(bytes: &[u8]) -> RawPacket
     ensures { result ≡ raw_packet (decode_of bytes.now) }
 {
-    raw_packet::raw_packet(sahara_parse_packet(bytes))
+    RawPacket::from(sahara_parse_packet(bytes))
 }
 
 // Reset, 8 bytes of the out buffer.
+#[tactic(auto, unfolding(crate::specs::Worgesli::reset_raw))]
 #[unsafe(no_mangle)]
 pub extern "C" fn worgesli_reset(out: &mut [u8]) -> u32
     ensures { reset_outcome result out.new ≡ reset_raw out.old }
 {
-    raw_records::built_number(sahara_reset(out))
+    refused_number(sahara_reset(out))
 }
