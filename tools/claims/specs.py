@@ -13,7 +13,7 @@ Case = collections.namedtuple("Case", "enum name number")
 Equation = collections.namedtuple("Equation", "left right")
 
 BEGINS = re.compile(r"^ *(?:(?:abbrev|unfoldable) pub (\S+) :|pub (record|data) ([^\s:]+))")
-USES = re.compile(r"^use Rattle\.(\w+)\.specs\.(declared\.)?(\w+)(\.TheVariants)?(?:\.\{([^}]*)\}| as (\w+))", re.M)
+USES = re.compile(r"^(?:pub )?use Rattle\.(\w+)\.specs\.(declared\.)?(\w+)(\.TheVariants)?(?:\.\{([^}]*)\}| as (\w+))", re.M)
 WORDS = re.compile(r"[()]|[^\s(){};,]+")
 # the enums whose cases have numbers, each with the definition that gives them
 NUMBERED = {"Refusal": "refusal_number", "Finish": "finish_number"}
@@ -44,7 +44,7 @@ class Specs:
                 now, is_data = Definition(path, begins[1] or begins[3]), begins[2] == "data"
                 here[now.name] = now
                 self.text[now] = ""
-            elif line.startswith(("use ", "module ", "pub mod ")):
+            elif line.startswith(("use ", "pub use ", "module ", "pub mod ")):
                 now = None
             elif now and is_data and constructor:
                 here.setdefault(constructor[1], now)
