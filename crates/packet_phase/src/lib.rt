@@ -1,13 +1,13 @@
 // The packet phase of a step: bytes are held up to the packet's end, then the packet is judged and acted on.
 #![tactic(auto)]
 
-ghost use Rattle.std.specs.Prelude.{◌≡◌, List, ℕ, ◌≤◌, length};
-ghost use Rattle.build.specs.Build.{size_of, front};
+ghost use Rattle.std.specs.Prelude.{◌≡◌, List, ℕ};
 ghost use Rattle.base.specs.Told.{Tells};
 ghost use Rattle.session.specs.Answers.{outcome_told};
-ghost use Rattle.session.specs.Outcome.{outcome, gives, holding};
+ghost use Rattle.session.specs.Outcome.{outcome, gives, holding, ended};
 ghost use Rattle.session.specs.PacketPhase.{keep, acted, whole_of, sized_of, packet_of};
 ghost use Rattle.session.specs.Guard.{packet_step};
+ghost use Rattle.packet_phase.specs.Acting.{put};
 
 use build::{Request, build};
 use copy::copy_into;
@@ -16,8 +16,23 @@ use packet::sahara_read_packet_length;
 use packet_verdict::judge;
 use refusal::Refusal;
 use session::{Answer, Filling, Phase, Session, Stepped};
-use turn::{guard, moved, untouched};
+use turn::{guard, untouched};
 use verdict::Verdict;
+
+// What is to be done: a packet is sent, or this is answered.
+#[derive(Clone, Copy)]
+pub enum Doing {
+    Send(Request),
+    Tell(Answer),
+}
+
+// What a step comes to before anything is built: the session from then on, the bytes taken, and what is to be done.
+#[derive(Clone, Copy)]
+pub struct Acting {
+    pub session: Session,
+    pub taken: usize,
+    pub doing: Doing,
+}
 
 // The window with bytes x behind the held ones; what passes 48 bytes is not kept.
 fn kept(window: [u8; 48], held: usize, x: &[u8]) -> [u8; 48]
@@ -40,87 +55,81 @@ fn holding(s: Session, w: [u8; 48], phase: Phase) -> Session
     }
 }
 
-// A packet to go on with: so many of its bytes are held.
-fn holds(s: Session, held: usize, w: [u8; 48], taken: usize, answer: Answer) -> Stepped
-    ensures { result ≡ gives (holding s w (Phase.Packet held)) taken answer }
+// The session ended.
+fn ended(s: Session) -> Session
+    ensures { result ≡ ended s }
 {
-    Stepped {
-        session: holding(s, w, Phase::Packet(held)),
-        taken,
-        answer,
+    Session {
+        phase: Phase::Ended(0),
+        ..s
     }
 }
 
-// A packet sent; s is the session from then on.
-#[tactic(auto, using(build::proofs::Laws::build_long))]
-fn sent(s: Session, taken: usize, q: Request, out: &mut [u8]) -> Stepped
-    requires { 48 ≤ length out.old }
-    ensures { (result ≡ gives s taken (Answer.Send (size_of q))) × (out.new ≡ front q out.old) }
+// What a verdict does; w is the window with the packet's bytes.
+fn act(s: Session, taken: usize, w: [u8; 48], v: Result<Verdict, Refusal>) -> Acting
+    ensures { (t y o : List ℕ) → put result t y o ≡ acted s taken w t y o v }
 {
-    let k = build(out, q).unwrap();
-    Stepped {
-        session: s,
-        taken,
-        answer: Answer::Send(k),
-    }
-}
-
-// What a verdict does; w is the window with the packet's bytes. It touches neither the table nor the reply buffer.
-fn act(
-    s: Session,
-    taken: usize,
-    w: [u8; 48],
-    v: Result<Verdict, Refusal>,
-    out: &mut [u8],
-) -> Stepped
-    requires { 48 ≤ length out.old }
-    ensures { (t y : List ℕ) → outcome result t y out.new ≡ acted s taken w t y out.old v }
-{
-    match v {
-        Ok(Verdict::Reply(q)) => sent(holding(s, w, Phase::Packet(0)), taken, q, out),
-        Ok(Verdict::Image(start, k)) => holds(s, 0, w, taken, Answer::Image(start, k)),
-        Ok(Verdict::Pass) => holds(s, 0, w, taken, Answer::Go),
-        Ok(Verdict::Finish(how)) => moved(s, Phase::Ended(0), taken, Answer::Finished(how, s.reads)),
-        Ok(Verdict::Respond(command, declared)) => {
-            let response = Phase::Response(Filling { declared, filled: 0 });
-            sent(holding(s, w, response), taken, Request::ExecuteData(command), out)
-        }
+    let (session, doing) = match v {
+        Ok(Verdict::Reply(q)) => (holding(s, w, Phase::Packet(0)), Doing::Send(q)),
+        Ok(Verdict::Image(start, k)) => (
+            holding(s, w, Phase::Packet(0)),
+            Doing::Tell(Answer::Image(start, k)),
+        ),
+        Ok(Verdict::Pass) => (holding(s, w, Phase::Packet(0)), Doing::Tell(Answer::Go)),
+        Ok(Verdict::Finish(how)) => (ended(s), Doing::Tell(Answer::Finished(how, s.reads))),
+        Ok(Verdict::Respond(command, declared)) => (
+            holding(
+                s,
+                w,
+                Phase::Response(Filling {
+                    declared,
+                    filled: 0,
+                }),
+            ),
+            Doing::Send(Request::ExecuteData(command)),
+        ),
         Ok(Verdict::Debug(width, addr, len)) => {
             let table = Filling {
                 declared: len as usize,
                 filled: 0,
             };
-            let next = Session {
+            let session = Session {
                 reads: 1,
                 width,
                 window: w,
                 phase: Phase::Table(table),
                 ..s
             };
-            sent(next, taken, Request::MemRead(width, addr, len), out)
+            (session, Doing::Send(Request::MemRead(width, addr, len)))
         }
-        Err(why) => moved(s, Phase::Ended(0), taken, Answer::Refused(why)),
+        Err(why) => (ended(s), Doing::Tell(Answer::Refused(why))),
+    };
+    Acting {
+        session,
+        taken,
+        doing,
+    }
+}
+
+// A packet to go on with: so many of its bytes are held.
+fn holds(s: Session, held: usize, w: [u8; 48], taken: usize) -> Acting
+    ensures { (t y o : List ℕ) → put result t y o ≡ outcome (gives (holding s w (Phase.Packet held)) taken Answer.Go) t y o }
+{
+    Acting {
+        session: holding(s, w, Phase::Packet(held)),
+        taken,
+        doing: Doing::Tell(Answer::Go),
     }
 }
 
 // The packet is whole: its bytes, or the first 48 of them, stand in the window w.
 #[tactic(auto, unfolding(session::specs::PacketPhase::whole_of))]
-fn whole(
-    s: Session,
-    taken: usize,
-    w: [u8; 48],
-    set: &[u8],
-    table: &[u8],
-    reply: &[u8],
-    out: &mut [u8],
-) -> Stepped
-    requires { 48 ≤ length out.old }
-    ensures { outcome result table.now reply.now out.new
-        ≡ whole_of s taken w set.now table.now reply.now out.old }
+fn whole(s: Session, taken: usize, w: [u8; 48], set: &[u8], table: &[u8], reply: &[u8]) -> Acting
+    ensures { (o : List ℕ) → put result table.now reply.now o ≡ whole_of s taken w set.now table.now reply.now o }
 {
     let k = (length_in(w) as usize).min(48);
     let v = judge(s.opening, set, table.len(), reply.len(), &w[..k]);
-    act(s, taken, w, v, out)
+    act(s, taken, w, v)
 }
 
 // The header is whole, and size is its length field.
@@ -133,22 +142,24 @@ fn body(
     set: &[u8],
     table: &[u8],
     reply: &[u8],
-    out: &mut [u8],
-) -> Stepped
-    requires { 48 ≤ length out.old }
-    ensures { outcome result table.now reply.now out.new
-        ≡ sized_of s held delivery.now size set.now table.now reply.now out.old }
+) -> Acting
+    ensures { (o : List ℕ) → put result table.now reply.now o
+        ≡ sized_of s held delivery.now size set.now table.now reply.now o }
 {
     if let Err(why) = sahara_read_packet_length(size) {
-        return moved(s, Phase::Ended(0), 8usize.saturating_sub(held), Answer::Refused(why));
+        return Acting {
+            session: ended(s),
+            taken: 8usize.saturating_sub(held),
+            doing: Doing::Tell(Answer::Refused(why)),
+        };
     }
     let left = (size as usize).saturating_sub(held);
     let n = left.min(delivery.len());
     let w = kept(s.window, held, &delivery[..n]);
     if n < left {
-        return holds(s, held + n, w, n, Answer::Go);
+        return holds(s, held + n, w, n);
     }
-    whole(s, n, w, set, table, reply, out)
+    whole(s, n, w, set, table, reply)
 }
 
 // Bytes of a packet, up to its end.
@@ -160,22 +171,20 @@ fn packet(
     set: &[u8],
     table: &[u8],
     reply: &[u8],
-    out: &mut [u8],
-) -> Stepped
-    requires { 48 ≤ length out.old }
-    ensures { outcome result table.now reply.now out.new
-        ≡ packet_of s held delivery.now set.now table.now reply.now out.old }
+) -> Acting
+    ensures { (o : List ℕ) → put result table.now reply.now o
+        ≡ packet_of s held delivery.now set.now table.now reply.now o }
 {
     let n = delivery.len();
     let w = kept(s.window, held, delivery);
     if n < 8usize.saturating_sub(held) {
-        return holds(s, held + n, w, n, Answer::Go);
+        return holds(s, held + n, w, n);
     }
-    body(s, held, delivery, length_in(w), set, table, reply, out)
+    body(s, held, delivery, length_in(w), set, table, reply)
 }
 
 // A step of the packet phase, so many bytes of a packet being held: 3, then 18, then the packet's bytes.
-#[tactic(auto, unfolding(session::specs::Guard::packet_step, turn::specs::Turn::guard_of))]
+#[tactic(auto, using(build::proofs::Laws::build_long), unfolding(session::specs::Guard::packet_step, turn::specs::Turn::guard_of))]
 pub fn packet_step(
     s: Session,
     held: usize,
@@ -191,5 +200,14 @@ pub fn packet_step(
     if let Err(why) = guard(s, held_limit(s.window, held), out) {
         return untouched(s, why);
     }
-    packet(s, held, delivery, set, table, reply, out)
+    let a = packet(s, held, delivery, set, table, reply);
+    let answer = match a.doing {
+        Doing::Send(q) => Answer::Send(build(out, q).unwrap()),
+        Doing::Tell(answer) => answer,
+    };
+    Stepped {
+        session: a.session,
+        taken: a.taken,
+        answer,
+    }
 }

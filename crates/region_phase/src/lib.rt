@@ -36,7 +36,8 @@ pub enum Advance {
 
 // ---- over the counts
 
-// No bytes are outstanding and some are left: the next memory read.
+// No bytes are outstanding and some are left: the next memory read. That 48 bytes are lent is asked here and twice below, and is in no type: what is ensured
+// speaks of the whole out buffer, of which an array of 48 bytes is the front alone.
 #[tactic(auto, using(build::proofs::Laws::build_long))]
 fn ask(width: Width, opening: Opening, reads: u64, x: Region, out: &mut [u8]) -> Counted
     requires { (48 ≤ length out.old) × (x.done < x.len) × (x.base + x.len ≤ 256 ^ field_size width) × (reads ≤ 2 ^ 63 + 1) }
