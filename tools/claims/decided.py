@@ -3,9 +3,6 @@ import functools
 
 from .specs import Case, words
 
-# behind these stands first a session, then the refusal's number; behind a case `Refused` the number
-REFUSES = ("untouched", "refused_raw")
-
 
 def choices(term, test=None):
     """Each level of a nested term, with the innermost test of a `pick` on which it is given."""
@@ -22,33 +19,21 @@ def choices(term, test=None):
 
 
 class Refusals:
-    """Which definitions give which refusal: by its number, or by a definition that is used in its place and is equal to the number."""
+    """Which definitions give which refusal: those whose right side has its case of the enum `Refusal`, outside of a test. Not counted is the file that gives
+    the cases their numbers."""
 
     def __init__(self, specs):
         self.specs = specs
         self.givers = {}
-        numbers = set()
+        numbers = specs.only("refusal_number").path
         for d in specs.text:
-            for what, test in self._refused(d):
-                if isinstance(what, str) and what.isdigit():
-                    self.givers.setdefault(int(what), []).append((d, test))
-                elif isinstance(what, list):
-                    numbers.add(specs.stands(d.path, what[0]))
-        for d in numbers - {None}:
-            for level, test in self._levels(d):
-                if len(level) == 1 and isinstance(level[0], str) and level[0].isdigit():
-                    self.givers.setdefault(int(level[0]), []).append((d, test))
+            for level, test in self._levels(d) if d.path != numbers else ():
+                for case in [specs.case(d.path, word) for word in level if isinstance(word, str)]:
+                    if case and case.enum == "Refusal":
+                        self.givers.setdefault(specs.number(case), []).append((d, test))
 
     def _levels(self, d):
         return [found for equation in self.specs.equations(d) for found in choices(equation.right)]
-
-    def _refused(self, d):
-        """What stands in a definition where a refusal's number does, and the test."""
-        for level, test in self._levels(d):
-            for at, word in enumerate(level):
-                behind = 2 if word in REFUSES else 1 if isinstance(word, str) and word.endswith(".Refused") else len(level)
-                for what in level[at + behind:][:1]:
-                    yield what, test
 
     @functools.lru_cache(maxsize=None)
     def decide(self, number):
@@ -74,24 +59,34 @@ class Refusals:
 class Answers:
     """Which definitions give which answer of a step. A range becomes a verdict and a verdict an answer, each by a definition (`image_for`, `acted`) that goes by
     its cases; these give the answer too."""
-    BETWEEN = ("Verdict", "ImageRange")
+    RANGE = ["Result", ["ℕ", "×", "ℕ"], "Refusal"]
+    BETWEEN = ("Verdict", "a range")
 
     def __init__(self, specs, step):
         self.specs = specs
         self.becomes = {}
-        sides = [(d, equation) for d in specs.reach(step) for equation in specs.equations(d)]
-        for d, equation in sides:
-            for case in self._cases(d, equation.left):
+        sides = [(d, *self._cases_of(d, equation)) for d in specs.reach(step) for equation in specs.equations(d)]
+        for d, left, right in sides:
+            for case in left:
                 if case.enum in self.BETWEEN:
-                    self.becomes.setdefault(case[:2], []).extend((then, d) for then in self._cases(d, equation.right))
+                    self.becomes.setdefault(case[:2], []).extend((then, d) for then in right)
         givers = {}
-        for d, equation in sides:
-            for case in self._cases(d, equation.right):
+        for d, _, right in sides:
+            for case in right:
                 for answer, through in self._answers(case):
                     givers.setdefault((answer.name, answer.number), set()).update({d} | through)
         numbered = {name for name, number in givers if number is not None}
         # of (answer, number), of an answer that is never given a number (answer, None)
         self.givers = {key: found for key, found in givers.items() if key[1] is not None or key[0] not in numbered}
+
+    def _cases_of(self, d, equation):
+        """The cases of enums that the two sides of an equation name, a range's `Ok` among them: what it is of, the definition's type says."""
+        left, right = list(self._cases(d, equation.left)), list(self._cases(d, equation.right))
+        *arguments, result = self.specs.type_of(d)
+        a_range = Case("a range", "Ok", None)
+        left += [a_range for of, term in zip(arguments, equation.left[1:]) if of == self.RANGE and term[0] == "Ok"]
+        right += [a_range for level, _ in choices(equation.right) if result == self.RANGE and level[:1] == ["Ok"]]
+        return left, right
 
     def _cases(self, d, term):
         """The cases of enums that a term names, at any depth."""

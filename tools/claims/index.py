@@ -18,7 +18,7 @@ ROOTS = {
     "between": ("between_of",),
     "region": ("region_of",),
     "ended": ("is_ended", "ended"),
-    "all": ("limit_of", "needs_bytes", "wanted_raw", "waits_at", "Within"),
+    "all": ("answer_told", "limit_of", "needs_bytes", "wanted_raw", "waits_at", "raw_of", "Within"),
     "the channel's end": ("closed_of", "closed_raw"),
     "plain host": ("plain",),
     "device": ("next", "Fair"),

@@ -7,14 +7,16 @@ import re
 
 # a definition's file, as crates/NAME/specs/FILE.antt, and its name
 Definition = collections.namedtuple("Definition", "path name")
-# a case of an enum of src/: the enum's name, the case's, and the number that it is given where that is written there
+# a case of an enum of src/: the enum's name, the case's, and the number that it is given where that is written there, or a case that has one
 Case = collections.namedtuple("Case", "enum name number")
 # an equation of a definition: both sides as nested lists of words, a list for each parenthesis
 Equation = collections.namedtuple("Equation", "left right")
 
 BEGINS = re.compile(r"^ *(?:(?:abbrev|unfoldable) pub (\S+) :|pub (record|data) ([^\s:]+))")
-USES = re.compile(r"^use Rattle\.(\w+)\.specs\.(declared\.)?(\w+)(\.TheVariants)?(?:\.\{([^}]*)\}| as (\w+))", re.M)
+USES = re.compile(r"^(?:pub )?use Rattle\.(\w+)\.specs\.(declared\.)?(\w+)(\.TheVariants)?(?:\.\{([^}]*)\}| as (\w+))", re.M)
 WORDS = re.compile(r"[()]|[^\s(){};,]+")
+# the enums whose cases have numbers, each with the definition that gives them
+NUMBERED = {"Refusal": "refusal_number", "Finish": "finish_number"}
 
 
 class Specs:
@@ -42,7 +44,7 @@ class Specs:
                 now, is_data = Definition(path, begins[1] or begins[3]), begins[2] == "data"
                 here[now.name] = now
                 self.text[now] = ""
-            elif line.startswith(("use ", "module ", "pub mod ")):
+            elif line.startswith(("use ", "pub use ", "module ", "pub mod ")):
                 now = None
             elif now and is_data and constructor:
                 here.setdefault(constructor[1], now)
@@ -62,10 +64,21 @@ class Specs:
     def case(self, path, word, behind=None):
         """The case of an enum that a word of a file stands for, if it is one, with the number behind it."""
         kind, enum, name = self.imported[path].get(word.split(".")[0], ("", "", ""))
-        if kind not in ("case", "enum"):
+        if kind not in ("case", "enum") or kind == "enum" and "." not in word:
             return None
-        number = int(behind) if isinstance(behind, str) and behind.isdigit() else None
+        number = None
+        if isinstance(behind, str):
+            number = int(behind) if behind.isdigit() else self.number(self.case(path, behind))
         return Case(enum, name or word.partition(".")[2], number)
+
+    def number(self, case):
+        """The number of a case, where its enum has numbers."""
+        return self._numbers(NUMBERED[case.enum]).get(case.name) if case and case.enum in NUMBERED else None
+
+    @functools.lru_cache(maxsize=None)
+    def _numbers(self, name):
+        d = self.only(name)
+        return {self.case(d.path, equation.left[1]).name: int(equation.right[0]) for equation in self.equations(d)}
 
     @functools.lru_cache(maxsize=None)
     def reach(self, *roots):
@@ -86,6 +99,17 @@ class Specs:
         return found[0]
 
     @functools.lru_cache(maxsize=None)
+    def type_of(self, d):
+        """A definition's type, its arguments' and its result's, each as nested words."""
+        parts = [[]]
+        for word in nested(re.split(rf"\n *{re.escape(d.name)}(?= |$)", self.text[d], maxsplit=1)[0].partition(" : ")[2]):
+            if word == "→":
+                parts.append([])
+            else:
+                parts[-1].append(word)
+        return parts
+
+    @functools.lru_cache(maxsize=None)
     def equations(self, d):
         """A definition's equations. What stands in a `where` is of the right side."""
         lines = self.text[d].split("\n")[1:]
@@ -101,8 +125,8 @@ def imported(text):
         place = file if declared else f"crates/{crate}/specs/{file}.antt"
         if short:
             found[short] = ("enum" if declared else "file", place, "")
-        for name in names.replace(",", " ").split() if cases or not declared else ():
-            found[name] = ("case" if declared else "definition", place, name)
+        for name in names.replace(",", " ").split():
+            found[name] = ("case", place, name) if cases else ("enum", place, "") if declared else ("definition", place, name)
     return found
 
 

@@ -1,4 +1,4 @@
--- The refusals with their numbers. Document 01, "Refusals, operation by operation": 1 to 23; document 02: 24 (request 2), 25 (request 3), 26 and 27 (request
+-- The refusals with their numbers. Document 01, "Refusals, operation by operation": 1 to 23; document 02: 24 (request 2), 25 (request 4), 26 and 27 (request
 -- 5), 28 and 29 (request 6).
 use Rattle.std.specs.Prelude.{ℕ, ◌-◌, List, [], ◌∷◌, Result, Ok, Err, get_or}
 use Rattle.base.specs.Told.{Told, told, told_go, told_refused}

@@ -1,7 +1,9 @@
 // What a whole packet asks of the host, by its kind; what a session is opened with.
 #![tactic(auto)]
 
-ghost use Rattle.std.specs.Prelude.{◌≡◌};
+ghost use Rattle.std.specs.Prelude.{◌≡◌, eqb};
+ghost use Rattle.base.specs.Choice.{pick};
+ghost use Rattle.refusal.specs.Refusal.{accepted};
 ghost use Rattle.image.specs.Image.{range_unjudged};
 ghost use Rattle.verdict.specs.Backend.{backend_number, backend_named};
 ghost use Rattle.verdict.specs.Verdict.{
@@ -104,13 +106,22 @@ pub enum Verdict {
     Debug(Width, u64, u64),
 }
 
+// A packet's length field is exactly so much.
+fn exactly(len: u32, n: u32) -> Result<(), Refusal>
+    ensures { result ≡ pick (eqb len n) accepted (Err Refusal.KindLength) }
+{
+    if len == n {
+        Ok(())
+    } else {
+        Err(Refusal::KindLength)
+    }
+}
+
 // A hello is answered with the session's mode.
 pub fn on_hello(mode: SaharaMode, len: u32) -> Result<Verdict, Refusal>
     ensures { result ≡ exactly len 48 (Ok (Verdict.Reply (Request.HelloResp mode))) }
 {
-    if len != 48 {
-        return Err(Refusal::KindLength);
-    }
+    exactly(len, 48)?;
     Ok(Verdict::Reply(Request::HelloResp(mode)))
 }
 
@@ -118,9 +129,7 @@ pub fn on_hello(mode: SaharaMode, len: u32) -> Result<Verdict, Refusal>
 pub fn on_read(set: &[u8], len: u32, exact: u32, image: u64, offset: u64, count: u64) -> Result<Verdict, Refusal>
     ensures { result ≡ exactly len exact (image_for (range_unjudged set.now image offset count)) }
 {
-    if len != exact {
-        return Err(Refusal::KindLength);
-    }
+    exactly(len, exact)?;
     let (start, k) = image_range_unjudged(set, ImageId(image), offset, count)?;
     Ok(Verdict::Image(start, k))
 }
@@ -128,9 +137,7 @@ pub fn on_read(set: &[u8], len: u32, exact: u32, image: u64, offset: u64, count:
 pub fn on_eoi(len: u32, status: u32) -> Result<Verdict, Refusal>
     ensures { result ≡ exactly len 16 (end_for status) }
 {
-    if len != 16 {
-        return Err(Refusal::KindLength);
-    }
+    exactly(len, 16)?;
     if status != 0 {
         return Err(Refusal::ImageStatus);
     }
@@ -140,30 +147,24 @@ pub fn on_eoi(len: u32, status: u32) -> Result<Verdict, Refusal>
 pub fn on_done_resp(set: &[u8], status: u32) -> Result<Verdict, Refusal>
     ensures { result ≡ done_for set.now status }
 {
-    if status == 1 {
-        return Ok(Verdict::Finish(Finish::ImagesSent));
+    if status == 1 || padded::<u32>(set, 0) == 1 {
+        Ok(Verdict::Finish(Finish::ImagesSent))
+    } else {
+        Ok(Verdict::Pass)
     }
-    if padded::<u32>(set, 0) == 1 {
-        return Ok(Verdict::Finish(Finish::ImagesSent));
-    }
-    Ok(Verdict::Pass)
 }
 
 pub fn on_reset_resp(len: u32) -> Result<Verdict, Refusal>
     ensures { result ≡ exactly len 8 (Ok (Verdict.Finish Finish.Reset)) }
 {
-    if len != 8 {
-        return Err(Refusal::KindLength);
-    }
+    exactly(len, 8)?;
     Ok(Verdict::Finish(Finish::Reset))
 }
 
 pub fn on_command_ready(command: Option<SaharaCmdModeCmd>, len: u32) -> Result<Verdict, Refusal>
     ensures { result ≡ exactly len 8 (execute_for command) }
 {
-    if len != 8 {
-        return Err(Refusal::KindLength);
-    }
+    exactly(len, 8)?;
     let c = command.ok_or(Refusal::NoCommand)?;
     Ok(Verdict::Reply(Request::Execute(c)))
 }
@@ -182,13 +183,8 @@ pub fn on_exec_resp(rsize: usize, command: SaharaCmdModeCmd, count: u32) -> Resu
 pub fn on_debug(tsize: usize, width: Width, len: u32, exact: u32, addr: u64, count: u64) -> Result<Verdict, Refusal>
     ensures { result ≡ exactly len exact (table_for tsize width addr count) }
 {
-    if len != exact {
-        return Err(Refusal::KindLength);
-    }
-    if 65536 < count {
-        return Err(Refusal::TableLength);
-    }
-    if tsize < count as usize {
+    exactly(len, exact)?;
+    if 65536 < count || tsize < count as usize {
         return Err(Refusal::TableLength);
     }
     Ok(Verdict::Debug(width, addr, count))
