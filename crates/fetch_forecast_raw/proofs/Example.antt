@@ -11,6 +11,7 @@ use Rattle.field.specs.declared.Width.TheVariants as WI
 use Rattle.entry.specs.Entry.{entries_of}
 use Rattle.entry.specs.declared.RamdumpTable64.{RamdumpTable64}
 use Rattle.verdict.specs.Opening.{chunk_of}
+use Rattle.verdict.specs.declared.Finish.TheVariants as Finish
 use Rattle.forecast_sums.specs.Forecast.{forecast_of}
 use Rattle.session.specs.declared.Phase.{Phase}
 use Rattle.session.specs.declared.Phase.TheVariants as P
@@ -95,7 +96,7 @@ module _ (choice : ℕ → Call) (v : Width) where
     foreseen =
         rw (← same.state, ← same.table) (promised s.state s.table (entries v) d ∙ ap raw_forecast (forecast v))
 
-  reported_raw : reports (calling choice) board (start (calling choice) board) (first_steps v ++ last_steps) ≡ told v ++ (finished 3 2 ∷ [])
+  reported_raw : reports (calling choice) board (start (calling choice) board) (first_steps v ++ last_steps) ≡ told v ++ (finished Finish.Dumped 2 ∷ [])
   reported_raw =
       sym (same_reports definitions (calling choice) Numbers (opened_alike choice) (call_alike choice) board (first_steps v ++ last_steps)) ∙ reported v
 

@@ -25,10 +25,11 @@ use Rattle.field.specs.declared.Width.TheVariants as WI
 use Rattle.entry.specs.Entry.{entries_of}
 use Rattle.entry.specs.declared.RamdumpTable64.{RamdumpTable64}
 use Rattle.verdict.specs.Opening.{chunk_of}
-use Rattle.forecast_sums.specs.Forecast.{bytes_needed, reads_needed, passes, forecast_of, forecast_chunk}
-use Rattle.forecast_sums.specs.declared.Foreseen.{Foreseen}
-use Rattle.forecast_sums.specs.declared.Foreseen.TheVariants as F
+use Rattle.forecast_sums.specs.Forecast.{bytes_needed, reads_needed, passes, needs, forecast_of, forecast_chunk}
+use Rattle.forecast_sums.specs.declared.Forecast.{Forecast}
 use Rattle.forecast_sums.proofs.Laws.{chunk_is}
+use Rattle.std.specs.Prelude.{Result, Ok}
+use Rattle.refusal.specs.declared.Refusal.{Refusal}
 use Rattle.raw.specs.declared.RawSession.{RawSession}
 use Rattle.raw.specs.Raw.{width_number, width_of, is_width, phase_of, raw_of, session_of}
 use Rattle.raw_records.specs.Records.{raw_forecast}
@@ -62,8 +63,8 @@ unfolding session_of phase_of
 decodes r b h = ⊎_elim (λ e. rw e refl) (λ e. rw e refl) h
 
 -- an answer that refuses nothing tells the three numbers, as no refusal is 0
-abbrev Numbered : Foreseen → Type 0
-Numbered x = (raw_forecast x).refused ≡ 0 → x ≡ F.Needs (raw_forecast x).regions (raw_forecast x).bytes (raw_forecast x).reads
+abbrev Numbered : Result Forecast Refusal → Type 0
+Numbered x = (raw_forecast x).refused ≡ 0 → x ≡ Ok (needs (raw_forecast x).regions (raw_forecast x).bytes (raw_forecast x).reads)
 
 needs_told : (n : ℕ) (es : List RamdumpTable64) (names : List ℕ) → Numbered (forecast_of n es names)
 unfolding forecast_of

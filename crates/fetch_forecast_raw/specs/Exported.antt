@@ -5,6 +5,7 @@ use Rattle.std.specs.Prelude.{ℕ, ◌⊎◌, ◌≡◌, List, ◌∷◌, ◌++�
 use Rattle.raw.specs.declared.RawSession.{RawSession}
 use Rattle.raw_records.specs.Records.{raw_forecast}
 use Rattle.raw_records.specs.declared.RawForecast.{RawForecast}
+use Rattle.verdict.specs.declared.Finish.TheVariants as Finish
 use Rattle.steps.specs.Steps.{final, Throughout}
 use Rattle.raw_forecast.specs.RawForecast.{forecast_raw}
 use Rattle.fetch.specs.Plain.{Report, finished, Setting}
@@ -25,12 +26,12 @@ promised_for r table names = raw_forecast (forecast_raw (take r.count table) r.w
 abbrev pub behind : (ℕ → Call) → Setting → List Lent → World Called
 behind choice c ls = final (next (calling choice) c) (start (calling choice) c) ls
 
--- an answer x is true of the run of these steps: it refuses, or a run that finishes (3) comes to its numbers
+-- an answer x is true of the run of these steps: it refuses, or a run that finishes with the memory dumped (3) comes to its numbers
 abbrev pub TrueOf : (ℕ → Call) → Setting → List Lent → RawForecast → Type 0
 TrueOf choice c ls x =
     x.refused ≡ 0
     → (l m : List Report) (k : ℕ)
-    → reports (calling choice) c (start (calling choice) c) ls ≡ l ++ (finished 3 k ∷ m)
+    → reports (calling choice) c (start (calling choice) c) ls ≡ l ++ (finished Finish.Dumped k ∷ m)
     → Comes x.regions x.bytes x.reads k (reports (calling choice) c (start (calling choice) c) ls)
 
 -- of every run of calls, each step lent as `Lends` says, and every place in it where the session has its table: the answer promised there is true of the
