@@ -1,18 +1,17 @@
 -- Laws of the packets that are built: their sizes, the front of the out buffer, the two outcomes of a build. Assumes nothing.
-use mathlib.Core.Path.{◌≡◌, refl, sym, ap, ◌∙◌}
-use mathlib.Core.List.{List}
+use mathlib.Core.Path.{◌≡◌, refl}
+use mathlib.Core.List.{List, ◌++◌}
 use Prim.Native.Nat.{ℕ, ◌%◌, ◌^◌, ◌<◌, ◌≤◌}
 use native.Mathlib.Omega.{arith}
 use borrow.Author.Tests.{lt-ltb, le-ltb}
 use lib.ListN.{length, take, drop, length-append, length-drop}
 use lib.Seq.{sets, take_at, drop_at}
-use Rattle.base.specs.Told.{Tells}
+use Rattle.std.proofs.lemmas.List.{append_assoc, drop-append-le, length-take-le, take-append-drop}
 use Rattle.base.proofs.Lists.{sets_front}
-use Rattle.base.proofs.Telling.{tells}
 use Rattle.field.specs.Field.{le_bytes, fields}
 use Rattle.field.proofs.Laws.{le_bytes_mod}
 use Rattle.field.specs.declared.Width.TheVariants as WI
-use Rattle.build.specs.Build.{bytes_of, size_of, front, BuildOutcome, build_outcome, build_told, build_of}
+use Rattle.build.specs.Build.{bytes_of, size_of, front, build_outcome, build_of}
 use Rattle.build.specs.declared.Request.{Request}
 use Rattle.build.specs.declared.Request.TheVariants as Q
 use Rattle.std.specs.Prelude.{Ok, Err}
@@ -66,24 +65,21 @@ pub build_long : (q : Request) (o : List ℕ) → 48 ≤ length o → build_of q
 unfolding build_of
 build_long q o h = simp (le-ltb _ _ h)
 
+-- a packet stored in the first 48 bytes, the rest behind them, is the front
+pub build_within : (q : Request) (o : List ℕ) → 48 ≤ length o
+    → build_of q o ≡ build_outcome (Ok (size_of q)) (sets (take 48 o) 0 (bytes_of q) ++ drop 48 o)
+build_within q o h =
+    let m : size_of q ≤ length (take 48 o) = rw (length-take-le 48 o h) (size_most q) in
+    rw (
+      build_long q o h,
+      stored_front q (take 48 o) m,
+      append_assoc,
+      ← drop-append-le (size_of q) (take 48 o) (drop 48 o) m,
+      take-append-drop 48 o,
+    )
+    refl
+
 -- a memory read of 32 bits holds what is left of its numbers modulo 2^32
 pub narrowed : (a k : ℕ) → bytes_of (Q.MemRead WI.Bits32 (a % 256 ^ 4) (k % 256 ^ 4)) ≡ bytes_of (Q.MemRead WI.Bits32 a k)
 unfolding bytes_of fields
 narrowed a k = rw (le_bytes_mod 4 a, le_bytes_mod 4 k) refl
-
-pub build_narrowed : (a k : ℕ) (o : List ℕ) → build_of (Q.MemRead WI.Bits32 (a % 256 ^ 4) (k % 256 ^ 4)) o ≡ build_of (Q.MemRead WI.Bits32 a k) o
-unfolding build_of
-build_narrowed a k o = rw (narrowed a k) refl
-
--- so a build promises 3 where it is short, and a packet stored at 0 is what it leaves
-pub refuses : (q : Request) (o : List ℕ) → length o < 48 → Tells build_told (build_outcome (Err Refusal.OutBuffer) o) (build_of q o)
-refuses q o h = tells build_told (sym (build_short q o h))
-
-pub builds : (q : Request) (o e : List ℕ) → 48 ≤ length o → e ≡ sets o 0 (bytes_of q) → Tells build_told (build_outcome (Ok (size_of q)) e) (build_of q o)
-builds q o e h s =
-    let m : size_of q ≤ 48 = size_most q in
-    tells build_told (ap (build_outcome (Ok (size_of q))) (s ∙ stored_front q o (omega arith)) ∙ sym (build_long q o h))
-
--- and what is built of a request is built of any that is the same
-pub built_so : (o : List ℕ) {q r : Request} {x : BuildOutcome} → Tells build_told x (build_of r o) → q ≡ r → Tells build_told x (build_of q o)
-built_so o t p = tells build_told (t.is ∙ ap (λ (y : Request). build_of y o) (sym p))

@@ -15,7 +15,6 @@ use Rattle.command.specs.declared.SaharaCmd.TheVariants as K
 use Rattle.build.specs.declared.Request.{Request}
 use Rattle.build.specs.declared.Request.TheVariants as Q
 use Rattle.refusal.specs.declared.Refusal.{Refusal}
-use Rattle.refusal.specs.declared.Refusal.TheVariants as Refusal
 
 -- a packet: its command, its whole length, its body
 abbrev pub packet_bytes : ℕ → List ℕ → List ℕ

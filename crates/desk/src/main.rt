@@ -1,10 +1,10 @@
 // Reads standard input as deliveries of 4,096 bytes, each used up before the next is read, and prints a line a step: bytes taken, answer, number.
 #![tactic(auto)]
 
-ghost use Rattle.std.specs.Prelude.{◌≡◌, ◌≤◌, length, vec_len, IfOk};
+ghost use Rattle.std.specs.Prelude.{◌≤◌, vec_len, IfOk};
 
 use command::SaharaMode;
-use feed::{Feed, Turned};
+use feed::Feed;
 use session::{Answer, Session, Stepped};
 use std::alloc::{AllocError, Global};
 use std::io;
@@ -52,66 +52,37 @@ fn refill<R: Read>(input: &mut R, delivery: &mut Vec<u8>, f: Feed) -> io::Result
     requires { (f.from ≤ f.to) × (f.to ≤ vec_len delivery.old) }
     ensures { IfOk result (λ r. (r.from ≤ r.to) × (r.to ≤ vec_len delivery.new)) }
 {
-    if !feed::is_due(f) {
+    if !f.is_due() {
         return Ok(f);
     }
     delivery.clear();
     let n = input.take(4096).read_to_end(delivery)?;
-    Ok(Feed {
-        from: 0,
-        to: n,
-        over: n == 0,
-    })
+    Ok(Feed::delivered(0, n))
 }
 
 // The step, unless the input is over and it would wait: then the channel is closed.
-fn step_or_close(s: Session, f: Feed, delivery: &[u8], buffers: &mut Buffers) -> Stepped
-    requires { (f.from ≤ f.to) × (f.to ≤ length delivery.now) }
-{
-    if feed::closes(f, s) {
+fn step_or_close(s: Session, f: Feed, left: &[u8], buffers: &mut Buffers) -> Stepped {
+    if f.closes(s) {
         return host::closed(s);
     }
     let none = b"\0\0\0\0\0\0\0\0";
-    let left = &delivery[f.from..f.to];
     let Buffers { table, reply, out } = buffers;
     host::step(s, left, none, none, table, reply, out)
-}
-
-fn turn(
-    rt: &impl Print,
-    s: Session,
-    f: Feed,
-    delivery: &[u8],
-    buffers: &mut Buffers,
-) -> io::Result<Turned>
-    requires { (f.from ≤ f.to) × (f.to ≤ length delivery.now) }
-    ensures { IfOk result (λ r. (r.feed.from ≤ r.feed.to) × (r.feed.to ≡ f.to)) }
-{
-    let r = step_or_close(s, f, delivery, buffers);
-    let next = r.session;
-    let a = r.answer;
-    let left = feed::left_after(f, r.taken);
-    let more = told(rt, r.taken, a)?;
-    Ok(Turned {
-        session: next,
-        feed: left,
-        more,
-    })
 }
 
 fn run<R: Read>(rt: &impl Print, alloc: Global, input: &mut R) -> io::Result<()> {
     let mut delivery = Vec::new(alloc);
     let mut buffers = Buffers::new(alloc)?;
     let mut s = host::open(SaharaMode::WaitingForImage, None, QdlBackend::Serial);
-    let mut f = feed::begin();
+    let mut f = Feed::begin();
     for _ in 0..u64::MAX {
         let fed = refill(input, &mut delivery, f)?;
-        let t = turn(rt, s, fed, &delivery, &mut buffers)?;
-        if !t.more {
+        let r = step_or_close(s, fed, &delivery[fed.from..fed.to], &mut buffers);
+        if !told(rt, r.taken, r.answer)? {
             return Ok(());
         }
-        f = t.feed;
-        s = t.session;
+        f = fed.left_after(r.taken);
+        s = r.session;
     }
     Ok(())
 }

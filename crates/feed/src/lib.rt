@@ -2,12 +2,13 @@
 // that read a device's bytes from elsewhere.
 #![tactic(auto)]
 
-ghost use Rattle.std.specs.Prelude.{◌≡◌, false, ◌+◌, min};
+ghost use Rattle.std.specs.Prelude.{◌≡◌, ◌+◌, ◌^◌, ◌<◌, false, min, eqb};
 ghost use Rattle.feed.specs.Feed.{due_at, closes_at};
 
 use session::Session;
 
-// A delivery, from..to of a buffer, and whether the bytes are over.
+// A delivery, from..to of a buffer, and whether the bytes are over. No ghost field says that from is at most to: `left_after`, `is_due` and `closes`,
+// public functions that programs call, ask that of no caller.
 #[derive(Clone, Copy)]
 pub struct Feed {
     pub from: usize,
@@ -15,45 +16,51 @@ pub struct Feed {
     pub over: bool,
 }
 
-// A step: the next session, what is left of the delivery, and whether the session goes on.
-#[derive(Clone, Copy)]
-pub struct Turned {
-    pub session: Session,
-    pub feed: Feed,
-    pub more: bool,
-}
-
-// Before the first delivery.
-pub fn begin() -> Feed
-    ensures { (result.from ≡ 0) × (result.to ≡ 0) × (result.over ≡ false) }
-{
-    Feed {
-        from: 0,
-        to: 0,
-        over: false,
+impl Feed {
+    // Before the first delivery.
+    pub fn begin() -> Feed
+        ensures { (result.from ≡ 0) × (result.to ≡ 0) × (result.over ≡ false) }
+    {
+        Feed {
+            from: 0,
+            to: 0,
+            over: false,
+        }
     }
-}
 
-// What is left after a step.
-pub fn left_after(f: Feed, taken: usize) -> Feed
-    ensures { (result.from ≡ min (f.from + taken) f.to) × (result.to ≡ f.to) × (result.over ≡ f.over) }
-{
-    Feed {
-        from: f.from.saturating_add(taken).min(f.to),
-        ..f
+    // A delivery of so many bytes, from a place of the buffer on; with none the bytes are over.
+    pub fn delivered(from: usize, n: usize) -> Feed
+        requires { from + n < 2 ^ 64 }
+        ensures { (result.from ≡ from) × (result.to ≡ from + n) × (result.over ≡ eqb n 0) }
+    {
+        Feed {
+            from,
+            to: from + n,
+            over: n == 0,
+        }
     }
-}
 
-// The next delivery is due: this one is used up, and there may be more.
-pub fn is_due(f: Feed) -> bool
-    ensures { result ≡ due_at f }
-{
-    f.to <= f.from && !f.over
-}
+    // What is left after a step.
+    pub fn left_after(self, taken: usize) -> Feed
+        ensures { (result.from ≡ min (self.from + taken) self.to) × (result.to ≡ self.to) × (result.over ≡ self.over) }
+    {
+        Feed {
+            from: self.from.saturating_add(taken).min(self.to),
+            ..self
+        }
+    }
 
-// The channel is closed in place of a step: the bytes are over and the step would wait.
-pub fn closes(f: Feed, s: Session) -> bool
-    ensures { result ≡ closes_at f s }
-{
-    f.over && waiting::needs_bytes(s)
+    // The next delivery is due: this one is used up, and there may be more.
+    pub fn is_due(self) -> bool
+        ensures { result ≡ due_at self }
+    {
+        self.to <= self.from && !self.over
+    }
+
+    // The channel is closed in place of a step: the bytes are over and the step would wait.
+    pub fn closes(self, s: Session) -> bool
+        ensures { result ≡ closes_at self s }
+    {
+        self.over && waiting::needs_bytes(s)
+    }
 }

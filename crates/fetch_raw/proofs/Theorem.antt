@@ -9,6 +9,8 @@ use lib.ListN.{length, get_or}
 use Rattle.base.proofs.Ranges.{by_test, by_then}
 use Rattle.field.specs.Field.{field_size}
 use Rattle.command.specs.Command.{mode_number}
+use Rattle.refusal.proofs.Laws.{refusal_back}
+use Rattle.verdict.proofs.Telling.{finish_back}
 use Rattle.verdict.specs.declared.Opening.{Opening}
 use Rattle.session.specs.declared.Phase.{Phase}
 use Rattle.session.specs.declared.Phase.TheVariants as P
@@ -44,8 +46,8 @@ answer_back (A.Open i) = refl
 answer_back (A.Bytes k) = refl
 answer_back A.EmptyRead = refl
 answer_back (A.Close i) = refl
-answer_back (A.Finished how r) = refl
-answer_back (A.Refused why) = refl
+answer_back (A.Finished how r) = rw (finish_back how) refl
+answer_back (A.Refused why) = rw (refusal_back why) refl
 
 -- an opening's numbers name it
 names_opening : (u : Opening) → is_opening (mode_number u.mode) (exec_number u.command) (backend_number u.backend) ≡ true

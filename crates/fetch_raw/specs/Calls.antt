@@ -5,6 +5,8 @@ use Rattle.std.specs.Prelude.{ℕ, suc, List, [], ◌∷◌, eqb}
 use Rattle.base.specs.Choice.{pick}
 use Rattle.field.specs.declared.Width.{Width}
 use Rattle.command.specs.Command.{mode_number}
+use Rattle.refusal.specs.Refusal.{refusal_of}
+use Rattle.verdict.specs.Verdict.{finish_of}
 use Rattle.verdict.specs.declared.Opening.{Opening}
 use Rattle.session.specs.declared.Answer.{Answer}
 use Rattle.session.specs.declared.Answer.TheVariants as A
@@ -23,7 +25,7 @@ answer_of n first second =
     (pick (eqb n 4) (A.Bytes first)
     (pick (eqb n 5) A.EmptyRead
     (pick (eqb n 6) (A.Close first)
-    (pick (eqb n 7) (A.Finished first second) (A.Refused first))))))))
+    (pick (eqb n 7) (A.Finished (finish_of first) second) (A.Refused (refusal_of first)))))))))
 
 -- `worgesli_step`, `worgesli_step_in_place`
 pub data Call : Type 0 where

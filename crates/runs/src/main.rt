@@ -5,9 +5,9 @@
 // ten numbers of 8 bytes (phase, width, memory reads; count, at, base, len, done, outstanding, due, as they cross to C) and the window.
 #![tactic(auto)]
 
-ghost use Rattle.std.specs.Prelude.{◌≡◌, ◌^◌, ◌<◌, ◌≤◌, IfOk};
+ghost use Rattle.std.specs.Prelude.{◌^◌, ◌<◌, ◌≤◌};
 
-use feed::{Feed, Turned};
+use feed::Feed;
 use raw::RawSession;
 use session::{Answer, Phase, Session, Stepped};
 use std::alloc::{AllocError, Global};
@@ -214,54 +214,25 @@ fn refill(f: Feed, size: usize, end: usize) -> Feed
     requires { (f.from ≤ f.to) × (f.to ≤ end) }
     ensures { (result.from ≤ result.to) × (result.to ≤ end) }
 {
-    if !feed::is_due(f) {
+    if !f.is_due() {
         return f;
     }
-    let n = size.min(end - f.to);
-    Feed {
-        from: f.to,
-        to: f.to + n,
-        over: n == 0,
-    }
+    Feed::delivered(f.to, size.min(end - f.to))
 }
 
 // The step, unless the device's bytes are over and it would wait: then the channel is closed.
 fn step_or_close(
     s: Session,
     f: Feed,
-    delivery: &[u8],
+    left: &[u8],
     parts: Parts<'_>,
     buffers: &mut Buffers,
 ) -> Stepped {
-    if feed::closes(f, s) {
+    if f.closes(s) {
         return host::closed(s);
     }
     let Buffers { table, reply, out } = buffers;
-    host::step(s, delivery, parts.set, parts.names, table, reply, out)
-}
-
-fn turn<W: Write>(
-    to: &mut W,
-    s: Session,
-    f: Feed,
-    delivery: &[u8],
-    parts: Parts<'_>,
-    buffers: &mut Buffers,
-) -> io::Result<Turned>
-    requires { f.from ≤ f.to }
-    ensures { IfOk result (λ r. (r.feed.from ≤ r.feed.to) × (r.feed.to ≡ f.to)) }
-{
-    let r = step_or_close(s, f, delivery, parts, buffers);
-    let next = r.session;
-    let a = r.answer;
-    let left = feed::left_after(f, r.taken);
-    told(to, r.taken, a, parts.set, &buffers.out)?;
-    replied(to, a, next.phase, &buffers.reply)?;
-    Ok(Turned {
-        session: next,
-        feed: left,
-        more: goes_on(a),
-    })
+    host::step(s, left, parts.set, parts.names, table, reply, out)
 }
 
 // One conversation: deliveries of at most `size` of the device's bytes. The session at its end.
@@ -273,16 +244,17 @@ fn run<W: Write>(
     buffers: &mut Buffers,
 ) -> io::Result<Session> {
     let mut s = first;
-    let mut f = feed::begin();
+    let mut f = Feed::begin();
     for _ in 0..1000000000 {
         let fed = refill(f, size, parts.feed.len());
-        let delivery = &parts.feed[fed.from..fed.to];
-        let t = turn(to, s, fed, delivery, parts, buffers)?;
-        s = t.session;
-        if !t.more {
+        let r = step_or_close(s, fed, &parts.feed[fed.from..fed.to], parts, buffers);
+        s = r.session;
+        told(to, r.taken, r.answer, parts.set, &buffers.out)?;
+        replied(to, r.answer, s.phase, &buffers.reply)?;
+        if !goes_on(r.answer) {
             return Ok(s);
         }
-        f = t.feed;
+        f = fed.left_after(r.taken);
     }
     Ok(s)
 }

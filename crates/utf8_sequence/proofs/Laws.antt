@@ -68,13 +68,13 @@ no_later (suc k) (suc n) low high s i j h d e =
 
 module _ (f : Follow) (s : List ℕ) (i : ℕ) where
   -- the bytes to come are there: the second of the sequence, the third, the fourth
-  abbrev pub Second : Bool → Type 0
+  abbrev Second : Bool → Type 0
   Second t = follows 1 f.1 f.2 (drop i s) ≡ t
 
-  abbrev pub Third : Bool → Type 0
+  abbrev Third : Bool → Type 0
   Third t = follows 1 0x80 0xBF (drop (i + 1) s) ≡ t
 
-  abbrev pub Fourth : Bool → Type 0
+  abbrev Fourth : Bool → Type 0
   Fourth t = follows 1 0x80 0xBF (drop (i + 2) s) ≡ t
 
   nowhere : follows f.0 f.1 f.2 (drop i s) ≡ false → 0 ≡ end_of f s i
@@ -105,3 +105,6 @@ module _ (f : Follow) (s : List ℕ) (i : ℕ) where
 
   pub too_many : 3 < f.0 → 0 ≡ end_of f s i
   too_many n = rw (lt-leb f.0 3 n) refl
+
+-- for each return of `behind`
+pub ruleset by_bytes = (placed, no_second, no_third, no_fourth, one_byte, two_bytes, three_bytes, four_bytes, too_many)

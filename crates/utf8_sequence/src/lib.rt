@@ -10,6 +10,7 @@ ghost use Rattle.utf8_sequence.specs.Sequence.{follows, end_of};
 pub struct Follow(pub u8, pub u8, pub u8);
 
 // Whether a byte stands at i, and is one of low..=high.
+#[tactic(auto, using(crate::proofs::Laws::none, crate::proofs::Laws::first))]
 fn there(low: u8, high: u8, s: &[u8], i: usize) -> bool
     ensures { result ≡ follows 1 low high (drop i s.now) }
 {
@@ -24,6 +25,7 @@ fn there(low: u8, high: u8, s: &[u8], i: usize) -> bool
 }
 
 // Where the bytes that follow a lead byte, which are to begin at i, end; 0 where they are not there, or are to be more than three.
+#[tactic(auto, using(crate::proofs::Laws::by_bytes))]
 pub fn behind(f: Follow, s: &[u8], i: usize) -> usize
     ensures { result ≡ end_of f s.now i }
 {
