@@ -1,14 +1,12 @@
 // Packets: an enum whose cases hold body structs, which hold the mode or the command; decoding; the length rule.
 #![tactic(auto)]
 
-ghost use Rattle.std.specs.Prelude.{◌≡◌, ◌+◌, ◌≤◌, length, drop};
-ghost use Rattle.command.specs.Command.{least_body};
-ghost use Rattle.command.specs.declared.SaharaCmd.TheVariants as K;
+ghost use Rattle.std.specs.Prelude.{◌≡◌, ◌+◌, ◌≤◌, length, drop, MatchResult, Ok, Err};
+ghost use Rattle.command.specs.Command.{least_body, mode_of};
 ghost use Rattle.field.specs.Field.{le};
-ghost use Rattle.packet.specs.declared.SaharaPacketBody.TheVariants as B;
 ghost use Rattle.base.specs.Told.{Tells};
 ghost use Rattle.packet.specs.Told.{decoded_told, length_told};
-ghost use Rattle.packet.specs.Packet.{unk_of, hello_words, address_length, body_of, kind_of, decode_of, length_checked};
+ghost use Rattle.packet.specs.Packet.{word, hello_words, body_of, kind_of, decode_of, length_checked};
 
 use command::{Class, SaharaCmd, SaharaCmdModeCmd, SaharaMode};
 use field::Number;
@@ -131,6 +129,7 @@ pub struct SaharaPacket {
 }
 
 // The field at an offset, which lies within the bytes.
+#[tactic(auto, unfolding(field::specs::Field::field_at))]
 fn read<T: Number>(p: &[u8], at: usize) -> T
     requires { at + T.SIZE ≤ length p.now }
     ensures { result ≡ T.of (le T.SIZE (drop at p.now)) }
@@ -138,107 +137,27 @@ fn read<T: Number>(p: &[u8], at: usize) -> T
     read_at(p, at).unwrap()
 }
 
-// The six words behind a hello's mode.
-fn six_words(p: &[u8]) -> Unk
-    requires { 48 ≤ length p.now }
-    ensures { result ≡ unk_of p.now }
-{
-    Unk {
-        unk0: read(p, 24),
-        unk1: read(p, 28),
-        unk2: read(p, 32),
-        unk3: read(p, 36),
-        unk4: read(p, 40),
-        unk5: read(p, 44),
-    }
-}
-
 // The words of either hello: the third is a HelloResp's status, a Hello's greatest length.
-fn hello_words(p: &[u8], mode: SaharaMode) -> HelloResp
+#[tactic(auto, unfolding(command::specs::Command::mode_of))]
+fn hello(p: &[u8]) -> Result<HelloResp, Refusal>
     requires { 48 ≤ length p.now }
-    ensures { result ≡ hello_words p.now mode }
+    ensures { MatchResult result (λ h. (mode_of (word p.now 3) ≡ Ok h.mode) × (h ≡ hello_words p.now h.mode)) (λ why. mode_of (word p.now 3) ≡ Err why) }
 {
-    let unk = six_words(p);
-    HelloResp {
+    let mode = SaharaMode::try_from(read::<u32>(p, 20))?;
+    Ok(HelloResp {
         ver: read(p, 8),
         compatible: read(p, 12),
         status: read(p, 16),
-        mode: mode,
-        unk: unk,
-    }
-}
-
-fn hello_req_body(p: &[u8]) -> Result<SaharaPacketBody, Refusal>
-    requires { 48 ≤ length p.now }
-    ensures { result ≡ body_of p.now K.Hello }
-{
-    let mode = SaharaMode::try_from(read::<u32>(p, 20))?;
-    let h = hello_words(p, mode);
-    Ok(SaharaPacketBody::HelloReq(HelloReq {
-        ver: h.ver,
-        compatible: h.compatible,
-        max_len: h.status,
-        mode: h.mode,
-        unk: h.unk,
-    }))
-}
-
-fn hello_resp_body(p: &[u8]) -> Result<SaharaPacketBody, Refusal>
-    requires { 48 ≤ length p.now }
-    ensures { result ≡ body_of p.now K.HelloResp }
-{
-    let mode = SaharaMode::try_from(read::<u32>(p, 20))?;
-    Ok(SaharaPacketBody::HelloResp(hello_words(p, mode)))
-}
-
-fn exec_resp_body(p: &[u8]) -> Result<SaharaPacketBody, Refusal>
-    requires { 16 ≤ length p.now }
-    ensures { result ≡ body_of p.now K.ExecuteResp }
-{
-    let command = SaharaCmdModeCmd::try_from(read::<u32>(p, 8))?;
-    let len = read(p, 12);
-    Ok(SaharaPacketBody::ExecResp(ExecResp { command, len }))
-}
-
-fn exec_data_body(p: &[u8]) -> Result<SaharaPacketBody, Refusal>
-    requires { 12 ≤ length p.now }
-    ensures { result ≡ body_of p.now K.ExecuteData }
-{
-    let command = SaharaCmdModeCmd::try_from(read::<u32>(p, 8))?;
-    Ok(SaharaPacketBody::ExecData(ExecData { command }))
-}
-
-fn read_req(p: &[u8]) -> ReadReq
-    requires { 20 ≤ length p.now }
-    ensures { Ok (B.ReadReq result) ≡ body_of p.now K.ReadData }
-{
-    ReadReq {
-        image: read(p, 8),
-        offset: read(p, 12),
-        len: read(p, 16),
-    }
-}
-
-// The address and the length of either memory kind of 64 bits.
-fn mem64(p: &[u8]) -> Debug64Req
-    requires { 24 ≤ length p.now }
-    ensures { result ≡ address_length p.now }
-{
-    Debug64Req {
-        addr: read(p, 8),
-        len: read(p, 16),
-    }
-}
-
-fn read_data64(p: &[u8]) -> ReadData64Req
-    requires { 32 ≤ length p.now }
-    ensures { Ok (B.ReadData64Req result) ≡ body_of p.now K.ReadData64 }
-{
-    ReadData64Req {
-        image: read(p, 8),
-        offset: read(p, 16),
-        len: read(p, 24),
-    }
+        mode,
+        unk: Unk {
+            unk0: read(p, 24),
+            unk1: read(p, 28),
+            unk2: read(p, 32),
+            unk3: read(p, 36),
+            unk4: read(p, 40),
+            unk5: read(p, 44),
+        },
+    })
 }
 
 // The least bytes of a kind's body.
@@ -270,9 +189,22 @@ fn body_of(p: &[u8], kind: SaharaCmd) -> Result<SaharaPacketBody, Refusal>
     ensures { result ≡ body_of p.now kind }
 {
     match kind {
-        SaharaCmd::Hello => hello_req_body(p),
-        SaharaCmd::HelloResp => hello_resp_body(p),
-        SaharaCmd::ReadData => Ok(SaharaPacketBody::ReadReq(read_req(p))),
+        SaharaCmd::Hello => {
+            let h = hello(p)?;
+            Ok(SaharaPacketBody::HelloReq(HelloReq {
+                ver: h.ver,
+                compatible: h.compatible,
+                max_len: h.status,
+                mode: h.mode,
+                unk: h.unk,
+            }))
+        }
+        SaharaCmd::HelloResp => Ok(SaharaPacketBody::HelloResp(hello(p)?)),
+        SaharaCmd::ReadData => Ok(SaharaPacketBody::ReadReq(ReadReq {
+            image: read(p, 8),
+            offset: read(p, 12),
+            len: read(p, 16),
+        })),
         SaharaCmd::EndOfImage => Ok(SaharaPacketBody::Eoi(Eoi {
             image: read(p, 8),
             status: read(p, 12),
@@ -281,17 +213,13 @@ fn body_of(p: &[u8], kind: SaharaCmd) -> Result<SaharaPacketBody, Refusal>
         SaharaCmd::DoneResp => Ok(SaharaPacketBody::DoneResp(DoneResp { status: read(p, 8) })),
         SaharaCmd::ResetResp => Ok(SaharaPacketBody::ResetResp),
         SaharaCmd::CommandReady => Ok(SaharaPacketBody::CommandReady),
-        SaharaCmd::ExecuteResp => exec_resp_body(p),
-        SaharaCmd::ExecuteData => exec_data_body(p),
-        SaharaCmd::MemDebug64 => Ok(SaharaPacketBody::Debug64Req(mem64(p))),
-        SaharaCmd::MemRead64 => {
-            let m = mem64(p);
-            Ok(SaharaPacketBody::ReadMem64Req(ReadMem64Req {
-                addr: m.addr,
-                len: m.len,
-            }))
-        }
-        SaharaCmd::ReadData64 => Ok(SaharaPacketBody::ReadData64Req(read_data64(p))),
+        SaharaCmd::ExecuteResp => Ok(SaharaPacketBody::ExecResp(ExecResp {
+            command: SaharaCmdModeCmd::try_from(read::<u32>(p, 8))?,
+            len: read(p, 12),
+        })),
+        SaharaCmd::ExecuteData => Ok(SaharaPacketBody::ExecData(ExecData {
+            command: SaharaCmdModeCmd::try_from(read::<u32>(p, 8))?,
+        })),
         SaharaCmd::MemDebug => Ok(SaharaPacketBody::DebugReq(DebugReq {
             addr: read(p, 8),
             len: read(p, 12),
@@ -300,10 +228,24 @@ fn body_of(p: &[u8], kind: SaharaCmd) -> Result<SaharaPacketBody, Refusal>
             addr: read(p, 8),
             len: read(p, 12),
         })),
+        SaharaCmd::MemDebug64 => Ok(SaharaPacketBody::Debug64Req(Debug64Req {
+            addr: read(p, 8),
+            len: read(p, 16),
+        })),
+        SaharaCmd::MemRead64 => Ok(SaharaPacketBody::ReadMem64Req(ReadMem64Req {
+            addr: read(p, 8),
+            len: read(p, 16),
+        })),
+        SaharaCmd::ReadData64 => Ok(SaharaPacketBody::ReadData64Req(ReadData64Req {
+            image: read(p, 8),
+            offset: read(p, 16),
+            len: read(p, 24),
+        })),
     }
 }
 
 // The same, malformed where it is short.
+#[tactic(auto, unfolding(crate::specs::Packet::kind_of))]
 fn kind_of(p: &[u8], kind: SaharaCmd) -> Result<SaharaPacketBody, Refusal>
     ensures { result ≡ kind_of p.now kind }
 {
