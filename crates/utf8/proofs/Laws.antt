@@ -190,3 +190,6 @@ cut_before xs b ys h t = goes_cut [] xs b ys tt h t
 -- the same at a place of the text
 pub cut : (s : List ℕ) (i : ℕ) → i < length s → get_or s i 0 < 0x80 → utf8 s ≡ true → utf8 (take i s) ≡ true
 cut s i l h t = cut_before (take i s) (get_or s i 0) (drop (suc i) s) h (rw (split_at s i 0 l) at t)
+
+-- by a byte's class: its row, and what is no sequence
+pub ruleset by_class = (first_byte, no_byte, is_digit, its_row, not_whole)

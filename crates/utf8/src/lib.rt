@@ -42,6 +42,7 @@ const ROWS: [Follow; 9] = [
 
 // Whether the bytes are UTF-8, one sequence after the other, by the class of each lead byte. The constants are lent, since the compiler writes an array to
 // the stack wherever it is named.
+#[tactic(auto, using(crate::proofs::Laws::by_class), unfolding(crate::specs::Utf8::goes_on))]
 fn sequences(classes: &[u8; 256], rows: [Follow; 9], s: &[u8]) -> bool
     requires { Rule classes.now rows }
     ensures { result ≡ utf8 s.now }
