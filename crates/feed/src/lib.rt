@@ -2,7 +2,7 @@
 // that read a device's bytes from elsewhere.
 #![tactic(auto)]
 
-ghost use Rattle.std.specs.Prelude.{◌≡◌, ◌+◌, ◌^◌, ◌<◌, false, min, eqb};
+ghost use Rattle.std.specs.Prelude.{◌≡◌, ◌+◌, ◌-◌, ◌^◌, false, min, eqb};
 ghost use Rattle.feed.specs.Feed.{due_at, closes_at};
 
 use session::Session;
@@ -28,14 +28,13 @@ impl Feed {
         }
     }
 
-    // A delivery of so many bytes, from a place of the buffer on; with none the bytes are over.
+    // A delivery of so many bytes, from a place of the buffer on; with none the bytes are over. No place is behind 2^64 - 1.
     pub fn delivered(from: usize, n: usize) -> Feed
-        requires { from + n < 2 ^ 64 }
-        ensures { (result.from ≡ from) × (result.to ≡ from + n) × (result.over ≡ eqb n 0) }
+        ensures { (result.from ≡ from) × (result.to ≡ min (from + n) (2 ^ 64 - 1)) × (result.over ≡ eqb n 0) }
     {
         Feed {
             from,
-            to: from + n,
+            to: from.saturating_add(n),
             over: n == 0,
         }
     }
