@@ -18,7 +18,7 @@ use Rattle.bundle.specs.Bundle.{count_of, data_size_of, slot_start_of, slot_leng
 use Rattle.bundle.specs.Content.{size_in, content_at, content_of}
 use Rattle.bundle.specs.declared.Slot.{Slot}
 use Rattle.bundle.specs.declared.Slot.TheVariants as S
-use Rattle.std.specs.Prelude.{Ok, Err}
+use Rattle.std.specs.Prelude.{Err}
 use Rattle.refusal.specs.declared.Refusal.{Refusal}
 use Rattle.refusal.specs.Refusal.{accepted}
 

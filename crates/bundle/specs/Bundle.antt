@@ -1,7 +1,7 @@
 -- Bundles: image sets and name lists. Document 01, Records, "Bundle": slot count n (4 bytes, 0..64), data size d (4 bytes), n starts, n lengths
 -- (4 bytes each), d data bytes; total exactly 8 + 8n + d; a present slot's start + length is at most d, ranges may overlap; start 0xFFFFFFFF with
 -- length 0 means absent, allowed in an image set and not in a name list. Refusals, "Bundle check": 1 image set malformed, 2 names malformed.
-use Rattle.std.specs.Prelude.{ℕ, zero, suc, ◌+◌, ◌*◌, Bool, true, false, List, [], ◌∷◌, ltb, leb, eqb, length, drop, Result, Ok, Err}
+use Rattle.std.specs.Prelude.{ℕ, zero, suc, ◌+◌, ◌*◌, Bool, true, false, List, [], ◌∷◌, ltb, leb, eqb, length, drop, Result, Err}
 use Rattle.base.specs.Choice.{pick}
 use Rattle.base.specs.Told.{Told, told}
 use Rattle.refusal.specs.Refusal.{accepted_told, accepted}
@@ -9,7 +9,6 @@ use Rattle.field.specs.Field.{le}
 use Rattle.bundle.specs.declared.Slot.{Slot}
 use Rattle.bundle.specs.declared.Slot.TheVariants as S
 use Rattle.refusal.specs.declared.Refusal.{Refusal}
-use Rattle.refusal.specs.declared.Refusal.TheVariants as Refusal
 
 -- n, d, and the start and length of slot i
 abbrev pub count_of : List ℕ → ℕ
