@@ -101,7 +101,7 @@ pub struct Counts {
 // The number of no command.
 const NO_COMMAND: u32 = 0xFFFFFFFF;
 
-fn exec_number(command: Option<SaharaCmdModeCmd>) -> u32
+pub fn exec_number(command: Option<SaharaCmdModeCmd>) -> u32
     ensures { result ≡ exec_number command }
 {
     match command {
