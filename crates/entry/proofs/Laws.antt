@@ -15,7 +15,7 @@ use Rattle.field.specs.Field.{le}
 use Rattle.field.proofs.Laws.{le_within}
 use Rattle.std.specs.Prelude.{Some, None}
 use Rattle.entry.specs.declared.RamdumpTable64.{RamdumpTable64}
-use Rattle.entry.specs.Entry.{entry_size, entries_in, entry_of, filename_of, there, decoded, entry_in, entries_from, entry_at}
+use Rattle.entry.specs.Entry.{entry_size, entries_in, entry_of, filename_of, there, entry_in, entries_from, entry_at}
 
 -- a number that lies within the n bytes from m on is that of the whole list
 pub number_within : (w k n m : ℕ) (l : List ℕ) → k + w ≤ n → le w (drop k (take n (drop m l))) ≡ le w (drop (m + k) l)
@@ -78,10 +78,7 @@ unfolding entries_from
 length_entries f t zero i = refl
 length_entries f t (suc k) i = ap suc (length_entries f t k (suc i))
 
--- an entry that is there has its bytes, and its filename 20
-pub length_entry : (f : ℕ) (t : List ℕ) (i : ℕ) → there f t i ≡ true → length (entry_of f t i) ≡ entry_size f
-length_entry f t i h = simp (length-take, length-drop) (omega (arith, there_fits f t i h))
-
+-- the filename of an entry that is there has its 20 bytes
 pub length_filename : (f : ℕ) (t : List ℕ) (i : ℕ) → there f t i ≡ true → length (filename_of f (entry_of f t i)) ≡ 20
 length_filename f t i h = simp (length-take, length-drop) (omega (arith, there_fits f t i h))
 
@@ -98,7 +95,3 @@ there_take f t i n h =
 
 pub entry_of_take : (f : ℕ) (t : List ℕ) (i n : ℕ) → entry_size f * (i + 1) ≤ n → entry_of f (take n t) i ≡ entry_of f t i
 entry_of_take f t i n h = part_of_first (entry_size f * i) (entry_size f) n t (rw (← next_place (entry_size f) i) h)
-
-pub entry_at_take : (f : ℕ) (t : List ℕ) (i n : ℕ) → entry_size f * (i + 1) ≤ n → entry_at f (take n t) i ≡ entry_at f t i
-unfolding entry_at
-entry_at_take f t i n h = rw (there_take f t i n h, entry_of_take f t i n h) refl

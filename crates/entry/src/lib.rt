@@ -79,6 +79,7 @@ fn decode(table: &[u8], width: Width, at: usize) -> RamdumpTable64
 }
 
 // Entry i of a table, where it lies whole within it.
+#[tactic(auto, using(crate::proofs::Laws::there_below, crate::proofs::Laws::there_fits), unfolding(crate::specs::Entry::entry_at))]
 pub fn entry_at(table: &[u8], width: Width, i: usize) -> Option<RamdumpTable64>
     ensures { result ≡ entry_at (field_size width) table.now i }
 {

@@ -168,15 +168,12 @@ unfolding le_bytes
 bytes_from zero i v = refl
 bytes_from (suc w) i v = rw (byte_is i v, bytes_from w (suc i) v, pow-suc 256 i, div-div-eq-div-mul v (256 ^ i) 256) refl
 
--- all of them
-pub bytes_of : (w v : ℕ) → bytes_low_first 0 w v ≡ le_bytes w v
-bytes_of w v = bytes_from w 0 v ∙ ap (le_bytes w) (omega (arith, pow-zero 256))
-
--- a part of d replaced by as many bytes is those bytes stored
-pub part_stored : (at k : ℕ) (d e xs : List ℕ) → e ≡ xs → length xs ≡ k → at + k ≤ length d → put_mid at (at + k - at) d e ≡ sets d at xs
-part_stored at k d e xs r l h =
+-- so a part of d replaced by all of them is the number stored
+pub number_stored : (at k v : ℕ) (d : List ℕ) → at + k ≤ length d → sets d at (le_bytes k v) ≡ put_mid at (at + k - at) d (bytes_low_first 0 k v)
+number_stored at k v d h =
     let m : at + k - at ≡ k = omega arith in
-    rw (m, r, sets-eq xs d at (rw l h), l, drop-drop k at d) (sym (append_assoc (take at d) xs (drop (at + k) d)))
+    let e : bytes_low_first 0 k v ≡ le_bytes k v = bytes_from k 0 v ∙ ap (le_bytes k) (omega (arith, pow-zero 256)) in
+    rw (m, e, sets-eq (le_bytes k v) d at (rw length_le_bytes h), length_le_bytes, drop-drop k at d) (append_assoc (take at d) (le_bytes k v) (drop (at + k) d))
 
 -- from a place on, a place past the end being the end
 pub from_place : (at m : ℕ) (s : List ℕ) → m ≡ min at (length s) → take (length s - m) (drop m s) ≡ drop at s

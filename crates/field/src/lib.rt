@@ -42,10 +42,12 @@ impl Number for u32 {
 
     ghost most = { Prim.search rules };
 
+    #[tactic(auto, using(crate::proofs::Laws::le4))]
     fn load(s: &[u8], at: usize) -> u32 {
         u32::from_le_bytes([s[at], s[at + 1], s[at + 2], s[at + 3]])
     }
 
+    #[tactic(auto, using(crate::proofs::Laws::number_stored))]
     fn store(self, d: &mut [u8], at: usize) {
         let bytes = self.to_le_bytes();
         d[at..at + 4].copy_from_slice(&bytes);
@@ -63,6 +65,7 @@ impl Number for u64 {
 
     ghost most = { Prim.search rules };
 
+    #[tactic(auto, using(crate::proofs::Laws::le8))]
     fn load(s: &[u8], at: usize) -> u64 {
         u64::from_le_bytes([
             s[at],
@@ -76,6 +79,7 @@ impl Number for u64 {
         ])
     }
 
+    #[tactic(auto, using(crate::proofs::Laws::number_stored))]
     fn store(self, d: &mut [u8], at: usize) {
         let bytes = self.to_le_bytes();
         d[at..at + 8].copy_from_slice(&bytes);
@@ -142,6 +146,7 @@ pub fn field_at<T: Number>(s: &[u8], at: usize) -> Option<T>
 }
 
 // The number that the bytes at a place write; a byte that is not there is 0.
+#[tactic(auto, using(crate::proofs::Laws::told_is, crate::proofs::Laws::told_short, crate::proofs::Laws::from_place))]
 pub fn padded<T: Number>(s: &[u8], at: usize) -> T
     ensures { result ≡ T.of (le T.SIZE (drop at s.now)) }
 {

@@ -1,4 +1,4 @@
--- `field::padded` meets its contract: the field where it lies within the bytes, else what is there with zeros behind it. Assumes nothing.
+-- `field::padded` meets its contract where the field does not lie within the bytes: what is there with zeros behind it. Assumes nothing.
 use mathlib.Core.Path.{◌≡◌, sym, ap, ◌∙◌}
 use mathlib.Core.List.{List, ◌++◌}
 use Prim.Native.Nat.{ℕ, min, ◌+◌, ◌-◌, ◌<◌, ◌≤◌}
@@ -6,7 +6,7 @@ use native.Mathlib.Omega.{arith}
 use lib.ListN.{length, drop, take, replicate}
 use Rattle.std.proofs.lemmas.List.{length-drop, length-take-le, drop-replicate}
 use Rattle.field.specs.Field.{le}
-use Rattle.field.proofs.Laws.{told_is, told_short, from_place, le_zeros}
+use Rattle.field.proofs.Laws.{told_short, from_place, le_zeros}
 use Rattle.field.proofs.padded.Goals as goal
 
 -- what is there of a field of at most 8 bytes that does not lie within the bytes
@@ -16,12 +16,6 @@ fits at m w s e h l = rw (from_place at m s e, length-drop) (omega arith)
 -- zeros behind it say nothing
 with_zeros : (w at m k : ℕ) (s e : List ℕ) → m ≡ min at (length s) → e ≡ take (length s - m) (drop m s) → le w (e ++ drop k (replicate 8 0)) ≡ le w (drop at s)
 with_zeros w at m k s e p q = rw (q, from_place at m s p, drop-replicate {X = ℕ} k 8 0) (le_zeros w (8 - k) (drop at s))
-
-pub returns-in-Some : goal.returns-in-Some
-returns-in-Some g c = (told_is _ _ _ _ _ (sym c.field_at.ensures ∙ c.in-Some.is)).1
-
-pub slice_bounds-bytes-end : goal.slice_bounds-bytes-end
-slice_bounds-bytes-end g c = fits _ _ _ _ c.min.ensures (told_short _ _ _ _ (sym c.field_at.ensures ∙ c.in_default.is)) g.met.T.Number.most
 
 pub slice_bounds-copy_from_slice-end : goal.slice_bounds-copy_from_slice-end
 slice_bounds-copy_from_slice-end g c =
