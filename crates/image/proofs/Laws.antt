@@ -1,6 +1,6 @@
 -- Laws of image ranges: an answer lies within the set, and its bytes are the image's from the offset on; what the check of the set adds.
 use mathlib.Core.Path.{◌≡◌, refl, ap}
-use mathlib.Core.Bool.{true, false}
+use mathlib.Core.Bool.{true}
 use mathlib.Core.List.{List}
 use Prim.Native.Nat.{ℕ, ◌+◌, ◌≤◌}
 use native.Mathlib.Omega.{arith}
@@ -17,7 +17,6 @@ use Rattle.bundle.proofs.Laws.{slot_within}
 use Rattle.image.specs.Image.{slot_for, range_in, range_unjudged, range_of}
 use Rattle.std.specs.Prelude.{Err, Ok}
 use Rattle.refusal.specs.declared.Refusal.{Refusal}
-use Rattle.refusal.specs.declared.Refusal.TheVariants as Refusal
 
 refused≢at : {n : Refusal} {x : ℕ × ℕ} → Err n ≡ Ok x → ⊥
 refused≢at q = let z : ◌≡◌ {A = ℕ} 0 1 = cc in omega arith
@@ -38,11 +37,6 @@ given_in start size offset len s k h =
 pub range_formed : (set : List ℕ) (id offset len : ℕ) → well_formed true set ≡ true → range_of set id offset len ≡ range_unjudged set id offset len
 unfolding range_of
 range_formed set id offset len h = simp h
-
--- any other is refused
-pub range_malformed : (set : List ℕ) (id offset len : ℕ) → well_formed true set ≡ false → range_of set id offset len ≡ Err Refusal.ImageSet
-unfolding range_of
-range_malformed set id offset len h = simp h
 
 -- a set that is answered with a range is well-formed, and the range is that of its bytes
 range_in_lem : (set : List ℕ) (id offset len s k : ℕ) → range_of set id offset len ≡ Ok (s, k) → range_unjudged set id offset len ≡ Ok (s, k)

@@ -9,7 +9,6 @@ use Rattle.bundle.specs.Bundle.{well_formed, count_of, slot_of}
 use Rattle.bundle.specs.declared.Slot.{Slot}
 use Rattle.bundle.specs.declared.Slot.TheVariants.{At, Absent, Missing}
 use Rattle.refusal.specs.declared.Refusal.{Refusal}
-use Rattle.refusal.specs.declared.Refusal.TheVariants as Refusal
 
 -- the one-image rule: the slot that an image ID means among n slots
 abbrev pub slot_for : ℕ → ℕ → ℕ

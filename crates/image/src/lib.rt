@@ -40,7 +40,13 @@ fn part_of(start: usize, size: usize, offset: u64, len: u64) -> Result<(usize, u
 }
 
 // Where the bytes that a read asks for stand in the set, and how many they are; the set is not judged: for a caller that has checked it.
-pub fn image_range_unjudged(set: &[u8], id: ImageId, offset: u64, len: u64) -> Result<(usize, usize), Refusal>
+#[tactic(auto, using(bundle::proofs::Laws::slot_within))]
+pub fn image_range_unjudged(
+    set: &[u8],
+    id: ImageId,
+    offset: u64,
+    len: u64,
+) -> Result<(usize, usize), Refusal>
     ensures { Tells range_told result (range_unjudged set.now id.0 offset len) }
 {
     let n: u32 = padded(set, 0);
@@ -54,7 +60,12 @@ pub fn image_range_unjudged(set: &[u8], id: ImageId, offset: u64, len: u64) -> R
 
 // The same of a set that is judged first.
 #[tactic(auto, unfolding(crate::specs::Image::range_of))]
-pub fn image_range(set: &[u8], id: ImageId, offset: u64, len: u64) -> Result<(usize, usize), Refusal>
+pub fn image_range(
+    set: &[u8],
+    id: ImageId,
+    offset: u64,
+    len: u64,
+) -> Result<(usize, usize), Refusal>
     ensures { Tells range_told result (range_of set.now id.0 offset len) }
 {
     check_images(set)?;
