@@ -15,7 +15,6 @@ use Rattle.packet.specs.declared.Unk.{Unk}
 use Rattle.packet.specs.declared.SaharaPacketBody.{SaharaPacketBody}
 use Rattle.packet.specs.declared.SaharaPacketBody.TheVariants as B
 use Rattle.packet.specs.declared.HelloResp.{HelloResp}
-use Rattle.packet.specs.declared.Debug64Req.{Debug64Req}
 use Rattle.refusal.specs.declared.Refusal.{Refusal}
 use Rattle.packet.specs.declared.SaharaPacket.{SaharaPacket}
 use Rattle.refusal.specs.Refusal.{accepted}
@@ -68,9 +67,6 @@ address_in f p = le f (drop 8 p)
 
 abbrev pub length_in : ℕ → List ℕ → ℕ
 length_in f p = le f (drop (8 + f) p)
-
-abbrev pub address_length : List ℕ → Debug64Req
-address_length p = record { addr = address_in 8 p; len = length_in 8 p }
 
 -- the body of each kind, its least bytes being there
 abbrev pub body_of : List ℕ → SaharaCmd → Result SaharaPacketBody Refusal
