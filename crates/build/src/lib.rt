@@ -1,5 +1,5 @@
 // The packets that the host sends, built into a lent out buffer.
-#![tactic(auto)]
+#![tactic(auto, unfolding(crate::specs::Build::bytes_of, field::specs::Field::fields, field::specs::Field::le_bytes))]
 
 ghost use Rattle.std.specs.Prelude.{◌≡◌, [], ◌∷◌, ◌%◌, ◌^◌};
 ghost use Rattle.std.proofs.lemmas.List.Edits.{sets};
@@ -35,7 +35,6 @@ const SWITCH_MODE: u32 = 0x0c;
 const EXECUTE: u32 = 0x0d;
 
 // A packet's header.
-#[tactic(auto, unfolding(field::specs::Field::fields, field::specs::Field::le_bytes))]
 fn sahara_send_generic(out: &mut [u8; LEAST], cmd: u32, len: u32)
     ensures { out.new ≡ sets out.old 0 (words (cmd ∷ len ∷ [])) }
 {
@@ -44,7 +43,6 @@ fn sahara_send_generic(out: &mut [u8; LEAST], cmd: u32, len: u32)
 }
 
 // A packet whose body is one word.
-#[tactic(auto, unfolding(field::specs::Field::fields, field::specs::Field::le_bytes))]
 fn one_word(out: &mut [u8; LEAST], cmd: u32, v: u32)
     ensures { out.new ≡ sets out.old 0 (words (cmd ∷ 12 ∷ v ∷ [])) }
 {
@@ -53,7 +51,6 @@ fn one_word(out: &mut [u8; LEAST], cmd: u32, v: u32)
 }
 
 // HelloResp's body: version, compatible, status, mode, six words of 0.
-#[tactic(auto, unfolding(field::specs::Field::fields, field::specs::Field::le_bytes))]
 fn hello_body(out: &mut [u8; LEAST], mode: u32)
     ensures { out.new ≡ sets out.old 8 (words (2 ∷ 1 ∷ 0 ∷ mode ∷ 0 ∷ 0 ∷ 0 ∷ 0 ∷ 0 ∷ 0 ∷ [])) }
 {
@@ -84,7 +81,6 @@ fn low_word(n: u64) -> u32
 }
 
 // A memory read's packet.
-#[tactic(auto, unfolding(crate::specs::Build::bytes_of, field::specs::Field::fields, field::specs::Field::le_bytes))]
 fn mem_read(out: &mut [u8; LEAST], width: Width, addr: u64, len: u64)
     ensures { out.new ≡ sets out.old 0 (bytes_of (Request.MemRead width addr len)) }
 {
@@ -103,7 +99,6 @@ fn mem_read(out: &mut [u8; LEAST], width: Width, addr: u64, len: u64)
 }
 
 // The packet of a request at the out buffer's front; its size.
-#[tactic(auto, unfolding(crate::specs::Build::bytes_of, field::specs::Field::fields, field::specs::Field::le_bytes))]
 fn write_packet(out: &mut [u8; LEAST], request: Request) -> usize
     ensures bytes { out.new ≡ sets out.old 0 (bytes_of request) }
     ensures size { result ≡ size_of request }

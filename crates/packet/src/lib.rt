@@ -138,7 +138,6 @@ fn read<T: Number>(p: &[u8], at: usize) -> T
 }
 
 // The words of either hello: the third is a HelloResp's status, a Hello's greatest length.
-#[tactic(auto, unfolding(command::specs::Command::mode_of))]
 fn hello(p: &[u8]) -> Result<HelloResp, Refusal>
     requires { 48 ≤ length p.now }
     ensures { MatchResult result (λ h. (mode_of (word p.now 3) ≡ Ok h.mode) × (h ≡ hello_words p.now h.mode)) (λ why. mode_of (word p.now 3) ≡ Err why) }
