@@ -11,6 +11,7 @@ use field::{Width, padded};
 use filename::stem_len;
 
 // A letter of A..Z lowered; any other byte is itself.
+#[tactic(auto, using(crate::proofs::Laws::low_is))]
 pub fn lower(b: u8) -> u8
     ensures { result ≡ low b }
 {
@@ -19,6 +20,7 @@ pub fn lower(b: u8) -> u8
 
 // Whether a stem is one of n names, both sides lowered. A name of another length is left at once, one of the stem's length at the first byte that differs,
 // and the search at the first name that is the stem.
+#[tactic(auto, using(crate::proofs::Laws::name_steps))]
 fn named(names: &[u8], n: usize, stem: &[u8]) -> bool
     ensures { result ≡ member (map low stem.now) (map (map low) (names_from names.now n 0)) }
 {
@@ -33,6 +35,7 @@ fn named(names: &[u8], n: usize, stem: &[u8]) -> bool
 }
 
 // Whether names select an entry: none by its preference, else by its stem.
+#[tactic(auto, using(filename::proofs::Laws::stem_take, filename::proofs::Laws::length_stem))]
 pub fn selects(names: &[u8], entry: RamdumpTable64) -> bool
     ensures { result ≡ selected_by names.now entry.save_pref entry.filename }
 {
@@ -46,6 +49,7 @@ pub fn selects(names: &[u8], entry: RamdumpTable64) -> bool
 }
 
 // Whether entry i of a table is there and selected.
+#[tactic(auto, using(entry::proofs::Laws::entry_untold, crate::proofs::Laws::selected_missing, crate::proofs::Laws::selected_told))]
 pub fn is_selected(table: &[u8], width: Width, i: usize, names: &[u8]) -> bool
     ensures { result ≡ selected_at (field_size width) names.now table.now i }
 {
@@ -57,6 +61,7 @@ pub fn is_selected(table: &[u8], width: Width, i: usize, names: &[u8]) -> bool
 
 // The first selected entry from `from` on and before `entries`; `entries` where there is none (`from` where it is not below `entries`). The search ends
 // with the table: of what lies behind it nothing is selected, however many entries are named.
+#[tactic(auto, using(crate::proofs::Laws::next_steps))]
 pub fn next_selected(table: &[u8], width: Width, entries: usize, names: &[u8], from: usize) -> usize
     ensures { result ≡ next_of (field_size width) names.now table.now (entries - from) from }
 {

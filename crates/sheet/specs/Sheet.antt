@@ -11,7 +11,6 @@ use Rattle.entry.specs.declared.RamdumpTable64.{RamdumpTable64}
 use Rattle.filename.specs.Filename.{before}
 use Rattle.refusal.specs.Refusal.{made_told}
 use Rattle.refusal.specs.declared.Refusal.{Refusal}
-use Rattle.refusal.specs.declared.Refusal.TheVariants as Refusal
 
 -- characters; the request's "space" and "blank" are one
 abbrev pub blank : ℕ

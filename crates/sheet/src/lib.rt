@@ -32,6 +32,7 @@ const LINE: usize = 57;
 const COLUMNS: usize = 20;
 
 // A byte of a filename as it is printed.
+#[tactic(auto, unfolding(crate::specs::Sheet::printed))]
 fn printed_byte(b: u8) -> u8
     ensures { result ≡ printed b }
 {
@@ -45,6 +46,7 @@ fn printed_byte(b: u8) -> u8
 }
 
 // Column j of a filename of which k bytes stand before its first zero.
+#[tactic(auto, using(filename::proofs::Laws::length_before, crate::proofs::Laws::column_printed, crate::proofs::Laws::column_blank))]
 fn column(name: &[u8], k: usize, j: usize) -> u8
     requires { (k ≡ length (before 0 name.now)) × (j < 20) }
     ensures { result ≡ get_or (columns name.now) j 0 }
@@ -56,6 +58,7 @@ fn column(name: &[u8], k: usize, j: usize) -> u8
 }
 
 // Writes a filename in its 20 columns.
+#[tactic(auto, using(base::proofs::Lists::sets_take_more, crate::proofs::Laws::length_columns, crate::proofs::Laws::all_columns))]
 fn put_name(page: &mut [u8], at: usize, name: &[u8])
     requires { (at + 20 ≤ length page.old) × (length name.now ≡ 20) }
     ensures { page.new ≡ sets page.old at (columns name.now) }
@@ -67,6 +70,7 @@ fn put_name(page: &mut [u8], at: usize, name: &[u8])
 }
 
 // A capital hexadecimal digit.
+#[tactic(auto, unfolding(crate::specs::Sheet::digit))]
 fn hex_digit(d: u8) -> u8
     requires { d < 16 }
     ensures { result ≡ digit d }
@@ -78,6 +82,7 @@ fn hex_digit(d: u8) -> u8
 }
 
 // Writes a number in 16 hexadecimal digits, stored from the last one back.
+#[tactic(auto, using(crate::proofs::Laws::hex_stored), unfolding(crate::specs::Sheet::hex))]
 fn put_hex(page: &mut [u8], at: usize, v: u64)
     requires { at + 16 ≤ length page.old }
     ensures { page.new ≡ sets page.old at (hex 16 v) }
@@ -90,6 +95,7 @@ fn put_hex(page: &mut [u8], at: usize, v: u64)
 }
 
 // The mark of a preference.
+#[tactic(auto, unfolding(crate::specs::Sheet::mark))]
 fn mark_of(preference: u64) -> u8
     ensures { result ≡ mark preference }
 {
@@ -100,6 +106,7 @@ fn mark_of(preference: u64) -> u8
 }
 
 // Writes an entry's line.
+#[tactic(auto, using(crate::proofs::Laws::line_steps))]
 fn put_line(page: &mut [u8], at: usize, e: RamdumpTable64)
     requires { at + 57 ≤ length page.old }
     ensures { page.new ≡ sets page.old at (line_of e) }
@@ -116,6 +123,7 @@ fn put_line(page: &mut [u8], at: usize, e: RamdumpTable64)
 }
 
 // Writes the lines of a table's first n entries.
+#[tactic(auto, using(crate::proofs::Laws::lines_steps), unfolding(crate::specs::Sheet::lines_of))]
 fn put_lines(page: &mut [u8], table: &[u8], width: Width, n: usize)
     requires { (n ≤ entries_in (field_size width) (length table.now)) × (57 * n ≤ length page.old) }
     ensures { page.new ≡ sets page.old 0 (lines_of (field_size width) table.now n) }
@@ -127,6 +135,7 @@ fn put_lines(page: &mut [u8], table: &[u8], width: Width, n: usize)
 }
 
 // The sheet of a table, a line an entry: how many bytes of the page it is. Where the page is too short for all of them, none is written.
+#[tactic(auto, using(base::proofs::Lists::sets_front, crate::proofs::Laws::length_sheet), unfolding(crate::specs::Sheet::sheet_of))]
 pub fn region_sheet(table: &[u8], width: Width, page: &mut [u8]) -> Result<usize, Refusal>
     ensures { Tells sheet_outcome_told (sheet_outcome result page.new) (sheet_of (field_size width) table.now page.old) }
 {

@@ -17,6 +17,7 @@ pub const MOST: usize = 0xFFFFFFFE;
 const ABSENT: u32 = 0xFFFFFFFF;
 
 // The bytes of slot i: how many.
+#[tactic(auto, using(bundle::proofs::Laws::size_there))]
 pub fn size_at(set: &[u8], i: usize) -> usize
     ensures { result ≡ size_in (content_of set.now i) }
 {
@@ -46,6 +47,7 @@ pub fn slot_count(set: &[u8]) -> usize
 }
 
 // The data bytes of the first n slots: how many, and of too many one more than the most.
+#[tactic(auto, using(tidied::proofs::Laws::data_none, tidied::proofs::Laws::data_grows, tidied::proofs::Laws::data_up_to))]
 pub fn data_size(set: &[u8], n: usize) -> usize
     ensures { result ≡ min (most_data + 1) (length (data_of (first_contents set.now n))) }
 {

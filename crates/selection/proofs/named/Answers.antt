@@ -2,12 +2,11 @@
 use Rattle.std.proofs.Common.{◌≡◌, ℕ, ◌+◌, ◌-◌, ◌<◌, List, map, take, drop, sym, refl, ◌∙◌, arith}
 use borrow.Author.Tests.{clash}
 use Rattle.std.specs.Char.{to_ascii_lowercase}
-use Rattle.bundle.proofs.Laws.{slot_within}
 use Rattle.bundle.specs.Bundle.{slot_of}
 use Rattle.bundle.specs.declared.Slot.{Slot}
 use Rattle.bundle.specs.declared.Slot.TheVariants as S
 use Rattle.selection.specs.Selection.{low}
-use Rattle.selection.proofs.Laws.{named_from, named_done, named_here, named_other, named_unequal, named_without, named_all, lowered_is}
+use Rattle.selection.proofs.Laws.{named_from, named_other, named_unequal, named_without, lowered_is}
 use Rattle.selection.proofs.named.Goals as goal
 use Rattle.selection.proofs.named.Goals.{in-At+else-size-stem, in_default}
 use Rattle.selection.proofs.named.Goals.{else-size-stem-via-then-size-stem+else-eq_ignore_ascii_case, else-size-stem-via-else-size-stem}
@@ -24,22 +23,6 @@ part_is : (b : List ℕ) (start size : ℕ) → map to_ascii_lowercase (take (st
 part_is b start size =
     let e : start + size - start ≡ size = omega arith in
     rw e (lowered_is (take size (drop start b)))
-
-pub overflow_add-start : goal.overflow_add-start
-overflow_add-start c =
-    omega (arith, slot_within c.args.names.now c.loop-i.i c.in-At.start c.in-At.size (sym c.slot_at.ensures.is ∙ c.in-At.is))
-
-pub slice_bounds-eq_ignore_ascii_case-end : goal.slice_bounds-eq_ignore_ascii_case-end
-slice_bounds-eq_ignore_ascii_case-end c =
-    omega (arith, slot_within c.args.names.now c.loop-i.i c.in-At.start c.in-At.size (sym c.slot_at.ensures.is ∙ c.in-At.is))
-
-pub returns-then-eq_ignore_ascii_case : goal.returns-then-eq_ignore_ascii_case
-returns-then-eq_ignore_ascii_case c =
-    let a = c.args in
-    let at = c.in-At in
-    let e = sym c.slot_at.ensures.is ∙ at.is in
-    let q = sym (part_is a.names.now at.start at.size) ∙ c.if-eq_ignore_ascii_case.ensures.test.0 refl ∙ lowered_is a.stem.now in
-    sym (named_all a.names.now a.n a.stem.now ∙ c.loop-i.invariant ∙ named_here a.names.now a.n a.stem.now c.loop-i.i at.start at.size c.loop-i-test.true e q)
 
 pub loop-i-preserved : goal.loop-i-preserved
 loop-i-preserved c =
@@ -62,8 +45,3 @@ loop-i-preserved c =
           ]
       | in_default w ↦ nameless names a.n stem i c.slot_at.result below w.in_default.not-At (sym is)
     ]
-
-pub returns : goal.returns
-returns c =
-    let a = c.args in
-    sym (named_all a.names.now a.n a.stem.now ∙ c.loop-i.invariant ∙ named_done a.names.now a.n a.stem.now c.loop-i.i c.loop-i-test.false)
