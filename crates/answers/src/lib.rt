@@ -29,7 +29,11 @@ pub fn first_value(a: Answer) -> u64
 {
     match a {
         Answer::Go | Answer::EmptyRead => 0,
-        Answer::Send(k) | Answer::Image(k, _) | Answer::Open(k) | Answer::Bytes(k) | Answer::Close(k) => k as u64,
+        Answer::Send(k)
+        | Answer::Image(k, _)
+        | Answer::Open(k)
+        | Answer::Bytes(k)
+        | Answer::Close(k) => k as u64,
         Answer::Finished(how, _) => u8::from(how) as u64,
         Answer::Refused(why) => u8::from(why) as u64,
     }

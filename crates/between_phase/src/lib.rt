@@ -50,7 +50,12 @@ fn next_region(s: Session, k: usize, from: usize, names: &[u8], table: &[u8]) ->
     let entries = entries_in(s.width, k);
     let i = next_selected(table, s.width, entries, names, from);
     if entries <= i {
-        return moved(s, Phase::Ended(0), 0, Answer::Finished(Finish::Dumped, s.reads));
+        return moved(
+            s,
+            Phase::Ended(0),
+            0,
+            Answer::Finished(Finish::Dumped, s.reads),
+        );
     }
     open_region(s, k, i, table)
 }

@@ -37,14 +37,7 @@ fn switch_mode(out: &mut [u8]) -> usize
 }
 
 // Bytes of the response; with the last of them, and for a response without bytes, SwitchMode is sent.
-#[tactic(
-    auto,
-    unfolding(
-        session::specs::Guard::response_step,
-        session::specs::FillingPhase::response_of,
-        turn::specs::Turn::guard_of
-    )
-)]
+#[tactic(auto, unfolding(session::specs::Guard::response_step, session::specs::FillingPhase::response_of, turn::specs::Turn::guard_of))]
 pub fn response_step(
     s: Session,
     x: Filling,
@@ -74,14 +67,7 @@ pub fn response_step(
 }
 
 // A whole response is there and SwitchMode is sent: finished (4).
-#[tactic(
-    auto,
-    unfolding(
-        session::specs::Guard::switched_step,
-        session::specs::FillingPhase::switched_of,
-        turn::specs::Turn::guard_of
-    )
-)]
+#[tactic(auto, unfolding(session::specs::Guard::switched_step, session::specs::FillingPhase::switched_of, turn::specs::Turn::guard_of))]
 pub fn switched_step(s: Session, k: usize, table: &[u8], reply: &[u8], out: &[u8]) -> Stepped
     ensures { Tells outcome_told (outcome result table.now reply.now out.now)
         (switched_step s k table.now reply.now out.now) }
@@ -89,18 +75,16 @@ pub fn switched_step(s: Session, k: usize, table: &[u8], reply: &[u8], out: &[u8
     if let Err(why) = guard(s, reply.len() < k, out) {
         return untouched(s, why);
     }
-    moved(s, Phase::Ended(k), 0, Answer::Finished(Finish::Reply, s.reads))
+    moved(
+        s,
+        Phase::Ended(k),
+        0,
+        Answer::Finished(Finish::Reply, s.reads),
+    )
 }
 
 // Bytes of the table; the last of them, and a table without bytes, go on to the regions.
-#[tactic(
-    auto,
-    unfolding(
-        session::specs::Guard::table_step,
-        session::specs::FillingPhase::table_of,
-        turn::specs::Turn::guard_of
-    )
-)]
+#[tactic(auto, unfolding(session::specs::Guard::table_step, session::specs::FillingPhase::table_of, turn::specs::Turn::guard_of))]
 pub fn table_step(
     s: Session,
     x: Filling,

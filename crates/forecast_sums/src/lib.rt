@@ -50,7 +50,10 @@ pub fn more(f: Forecast, len: u64) -> Result<Forecast, Refusal>
     ensures { result ≡ more_of forecast_chunk f len }
 {
     let bytes = f.bytes.checked_add(len).ok_or(Refusal::ForecastSum)?;
-    let reads = f.reads.checked_add(chunk_reads(len)).ok_or(Refusal::ForecastSum)?;
+    let reads = f
+        .reads
+        .checked_add(chunk_reads(len))
+        .ok_or(Refusal::ForecastSum)?;
     Ok(Forecast {
         regions: f.regions.wrapping_add(1),
         bytes,

@@ -69,11 +69,7 @@ pub fn phase_step(
 }
 
 // One step: a delivery, the image set and the names, and the table, reply and out buffers.
-#[tactic(
-    auto,
-    using(session::proofs::Parts::step_phase),
-    unfolding(session::specs::Step::step_of)
-)]
+#[tactic(auto, using(session::proofs::Parts::step_phase), unfolding(session::specs::Step::step_of))]
 pub fn step(
     s: Session,
     delivery: &[u8],

@@ -54,7 +54,13 @@ fn on_body(
 
 // The verdict on a packet's bytes.
 #[tactic(auto, unfolding(verdict::specs::Verdict::verdict_of))]
-pub fn judge(opening: Opening, set: &[u8], tsize: usize, rsize: usize, p: &[u8]) -> Result<Verdict, Refusal>
+pub fn judge(
+    opening: Opening,
+    set: &[u8],
+    tsize: usize,
+    rsize: usize,
+    p: &[u8],
+) -> Result<Verdict, Refusal>
     ensures { Tells verdict_told result (verdict_of opening set.now tsize rsize p.now) }
 {
     let q = sahara_parse_packet(p)?;

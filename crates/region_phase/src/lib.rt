@@ -164,11 +164,7 @@ fn close(s: Session, k: usize, x: Region) -> Stepped
 }
 
 // The step after open, by the entry's name, then its end: 21, then 22 or 24.
-#[tactic(
-    auto,
-    using(entry::proofs::Laws::entry_there),
-    unfolding(session::specs::RegionPhase::next_chunk)
-)]
+#[tactic(auto, using(entry::proofs::Laws::entry_there), unfolding(session::specs::RegionPhase::next_chunk))]
 fn begin_region(s: Session, k: usize, x: Region, table: &[u8], out: &mut [u8]) -> Stepped
     requires { (48 ≤ length out.old) × (there (field_size s.width) table.now x.entry ≡ true) × (s.reads ≤ 2 ^ 63 + 1) }
     ensures { (y : List ℕ) → outcome result table.now y out.new
@@ -189,15 +185,7 @@ fn begin_region(s: Session, k: usize, x: Region, table: &[u8], out: &mut [u8]) -
 }
 
 // A step in a region: k is the table's length, x the region.
-#[tactic(
-    auto,
-    unfolding(
-        session::specs::Guard::region_step,
-        session::specs::RegionPhase::region_of,
-        session::specs::RegionPhase::ask_of,
-        session::specs::RegionPhase::hand_of
-    )
-)]
+#[tactic(auto, unfolding(session::specs::Guard::region_step, session::specs::RegionPhase::region_of, session::specs::RegionPhase::ask_of, session::specs::RegionPhase::hand_of))]
 pub fn region_step(
     s: Session,
     k: usize,

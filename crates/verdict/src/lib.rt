@@ -126,7 +126,14 @@ pub fn on_hello(mode: SaharaMode, len: u32) -> Result<Verdict, Refusal>
 }
 
 // A read of either width, whose packet is to be `exact` bytes long. The set is not judged: a step has checked it before.
-pub fn on_read(set: &[u8], len: u32, exact: u32, image: u64, offset: u64, count: u64) -> Result<Verdict, Refusal>
+pub fn on_read(
+    set: &[u8],
+    len: u32,
+    exact: u32,
+    image: u64,
+    offset: u64,
+    count: u64,
+) -> Result<Verdict, Refusal>
     ensures { result ≡ exactly len exact (image_for (range_unjudged set.now image offset count)) }
 {
     exactly(len, exact)?;
@@ -180,7 +187,14 @@ pub fn on_exec_resp(rsize: usize, command: SaharaCmdModeCmd, count: u32) -> Resu
 }
 
 // A memory debug of either width, whose packet is to be `exact` bytes long.
-pub fn on_debug(tsize: usize, width: Width, len: u32, exact: u32, addr: u64, count: u64) -> Result<Verdict, Refusal>
+pub fn on_debug(
+    tsize: usize,
+    width: Width,
+    len: u32,
+    exact: u32,
+    addr: u64,
+    count: u64,
+) -> Result<Verdict, Refusal>
     ensures { result ≡ exactly len exact (table_for tsize width addr count) }
 {
     exactly(len, exact)?;
