@@ -6,7 +6,7 @@ ghost use Rattle.session.specs.Answers.{answer_number, answer_values};
 
 use session::Answer;
 
-// Go 0, send 1, image 2, open 3, bytes 4, empty read 5, close 6, finished 7, refused 8.
+// Go 0, send 1, image 2, open 3, bytes 4, empty read 5, close 6, finished 7, refused 8. An answer is three numbers, each asked for by itself: no `From`.
 pub fn answer_number(a: Answer) -> u32
     ensures { result ≡ answer_number a }
 {

@@ -27,7 +27,7 @@ use refusal::Refusal;
 #[derive(Clone, Copy)]
 pub struct SlotNumber(pub usize);
 
-// A slot: its first byte's place among the bundle's bytes and its length.
+// A slot: its first byte's place among the bundle's bytes and its length. An absent one and a missing one are two answers, which no Option tells apart.
 #[derive(Clone, Copy)]
 pub enum Slot {
     At(usize, usize),
@@ -61,7 +61,7 @@ struct Header<'a> {
     ghost starts_and_lengths: { 8 + 8 * count ≤ length bytes.now },
 }
 
-// Its methods take it by value: with a reference the compiled check of 64 slots takes twice as long.
+// That a slot's number is below the count is asked of each call, since it is of no header. Its methods take it by value: with a reference the compiled check of 64 slots takes twice as long.
 impl<'a> Header<'a> {
     // Nothing where the bytes end within the header, the starts or the lengths.
     fn of(bytes: &'a [u8]) -> Option<Header<'a>>

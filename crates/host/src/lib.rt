@@ -38,7 +38,8 @@ pub fn open(mode: SaharaMode, command: Option<SaharaCmdModeCmd>, backend: QdlBac
     }
 }
 
-// A step with the image set and the names judged well formed, for a session as if it were in the phase p.
+// A step with the image set and the names judged well formed, for a session as if it were in the phase p. The buffers are lent one by one, and not in one
+// struct: each phase is lent those that it reads or writes, so that no other can change.
 pub fn phase_step(
     s: Session,
     p: Phase,

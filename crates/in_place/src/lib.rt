@@ -9,7 +9,7 @@ use field::Width;
 use raw::{RawPlaced, RawSession, RawStepped, RawTold, told};
 use session::{Counted, Region};
 
-// A session in place: head has its mode, command, backend and phase; numbers its memory reads, count, place, base, length, bytes done and outstanding,
+// A session in place, three arrays as C lends them: head has its mode, command, backend and phase; numbers its memory reads, count, place, base, length, bytes done and outstanding,
 // whether an empty read is due, and its width.
 pub const MODE: usize = 0;
 

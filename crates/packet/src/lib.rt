@@ -71,6 +71,7 @@ pub struct ExecData {
     pub command: SaharaCmdModeCmd,
 }
 
+// These four, of which two are alike, have the Rust's names.
 #[derive(Clone, Copy)]
 pub struct DebugReq {
     pub addr: u32,

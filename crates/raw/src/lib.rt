@@ -96,7 +96,8 @@ pub struct Counts {
     pub due: u64,
 }
 
-// ---- what a session is opened with
+// ---- what a session is opened with. Numbers are read in two functions, whether they are good and what they name, and not by one `try_from`: a step judges
+// the image set and the names between them (the definitions of the C interface are total).
 
 // The number of no command.
 const NO_COMMAND: u32 = 0xFFFFFFFF;

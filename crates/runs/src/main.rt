@@ -8,6 +8,7 @@
 ghost use Rattle.std.specs.Prelude.{◌^◌, ◌<◌, ◌≤◌};
 
 use feed::Feed;
+use field::padded;
 use raw::RawSession;
 use session::{Answer, Phase, Session, Stepped};
 use std::alloc::{AllocError, Global};
@@ -33,14 +34,10 @@ struct Buffers {
     out: Vec<u8>,
 }
 
-fn word(words: &[u8], at: usize) -> u32 {
-    field::padded(words, at)
-}
-
 fn count(words: &[u8], at: usize) -> usize
     ensures { result < 2 ^ 32 }
 {
-    word(words, at) as usize
+    padded::<u32>(words, at) as usize
 }
 
 // The length of all parts, at most 131,072.
@@ -93,12 +90,12 @@ fn buffers_of(alloc: Global, words: &[u8], lent: &[u8]) -> Result<Buffers, Alloc
 
 // The session that the words open; every backend but 0 is USB.
 fn opened_by(words: &[u8]) -> Session {
-    let opening = raw::opening_of(word(words, 0), word(words, 4), word(words, 8).min(1));
+    let opening = raw::opening_of(
+        padded(words, 0),
+        padded(words, 4),
+        padded::<u32>(words, 8).min(1),
+    );
     host::open(opening.mode, opening.command, opening.backend)
-}
-
-fn long(s: &[u8], at: usize) -> u64 {
-    field::padded(s, at)
 }
 
 // The first 48 bytes, with zeros behind fewer.
@@ -116,16 +113,16 @@ fn session_of(opened: Session, s: &[u8]) -> Session {
         return opened;
     }
     raw::session_of(RawSession {
-        phase: long(s, 0).min(6) as u32,
-        width: long(s, 8),
-        reads: long(s, 16),
-        count: long(s, 24) as usize,
-        at: long(s, 32) as usize,
-        base: long(s, 40),
-        len: long(s, 48),
-        done: long(s, 56),
-        outstanding: long(s, 64),
-        due: long(s, 72).min(1),
+        phase: padded::<u64>(s, 0).min(6) as u32,
+        width: padded(s, 8),
+        reads: padded(s, 16),
+        count: padded::<u64>(s, 24) as usize,
+        at: padded::<u64>(s, 32) as usize,
+        base: padded(s, 40),
+        len: padded(s, 48),
+        done: padded(s, 56),
+        outstanding: padded(s, 64),
+        due: padded::<u64>(s, 72).min(1),
         window: window_of(&s[80..]),
         ..RawSession::from(opened)
     })

@@ -10,7 +10,7 @@ use entry::{RamdumpTable64, entry_at};
 use field::{Width, padded};
 use filename::stem_len;
 
-// A letter of A..Z lowered; any other byte is itself.
+// A letter of A..Z lowered; any other byte is itself. The library's method, under the name that docs/CLAIMS.md has for this promise.
 #[tactic(auto, using(crate::proofs::Laws::low_is))]
 pub fn lower(b: u8) -> u8
     ensures { result ≡ low b }

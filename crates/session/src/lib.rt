@@ -49,11 +49,13 @@ pub struct Session {
     pub reads: u64,
     // of the memory debug that came; 64 bits before
     pub width: Width,
-    // the first bytes of the packet that is held: no packet that is decoded needs more
+    // the first bytes of the packet that is held: no packet that is decoded needs more (how many are held stands in the phase: fixed memory, and C has it so)
     pub window: [u8; 48],
     pub phase: Phase,
 }
 
+// What a step answers, in the order of the requirement's list, which C has as numbers: refused is one of them, beside the session and the bytes taken, and so
+// no `Err`.
 #[derive(Clone, Copy)]
 pub enum Answer {
     Go,

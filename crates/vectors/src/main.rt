@@ -14,6 +14,7 @@ use std::io;
 use std::io::{Read, Write};
 use text::Line;
 
+// The operation of a letter: one `match`, since letters are data.
 fn lettered<W: Write>(to: &mut W, letter: u8, line: Line<'_>) -> io::Result<()> {
     match letter {
         b'd' => packets::decode(to, line),

@@ -10,6 +10,7 @@ use refusal::Refusal;
 use std::io::Write;
 use std::{fmt, io};
 
+// The kind of a body, for its number: `From<SaharaCmd> for u32` is tried by this.
 fn kind_of(body: SaharaPacketBody) -> SaharaCmd {
     match body {
         SaharaPacketBody::HelloReq(_) => SaharaCmd::Hello,

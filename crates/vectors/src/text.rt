@@ -9,7 +9,7 @@ pub(crate) struct Line<'a> {
     pub(crate) text: &'a [u8],
 }
 
-// The value of a digit 0..9, a..f; 0 of any other byte.
+// The value of a digit 0..9, a..f; 0 of any other byte. (`to_digit(16)` takes A..F too.)
 fn digit(b: u8) -> u8
     ensures { result < 16 }
 {

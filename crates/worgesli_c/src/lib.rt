@@ -1,4 +1,5 @@
-// The archive for C and Rust: each export is the function of its name of crate worgesli, under its contract. A slice crosses as a pointer and a length, a
+// The archive for C and Rust: each export is the function of its name of crate worgesli, under its contract; it stands here once more since the kit makes an
+// archive of one crate's own exports (the C interface). A slice crosses as a pointer and a length, a
 // struct by value, an array behind a reference as a pointer.
 #![tactic(auto)]
 
