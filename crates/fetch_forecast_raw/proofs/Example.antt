@@ -16,10 +16,8 @@ use Rattle.forecast_sums.specs.Forecast.{forecast_of}
 use Rattle.session.specs.declared.Phase.{Phase}
 use Rattle.session.specs.declared.Phase.TheVariants as P
 use Rattle.session.specs.declared.Session.{Session}
-use Rattle.raw.specs.declared.RawSession.{RawSession}
 use Rattle.raw.specs.Raw.{width_number, width_of, counts_of, raw_of}
 use Rattle.raw_records.specs.Records.{raw_forecast}
-use Rattle.raw_records.specs.declared.RawForecast.{RawForecast}
 use Rattle.steps.specs.Steps.{final, Throughout}
 use Rattle.steps.proofs.Steps.{fair_related}
 use Rattle.fetch.specs.Plain.{finished}

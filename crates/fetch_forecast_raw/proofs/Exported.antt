@@ -25,7 +25,7 @@ use Rattle.field.specs.declared.Width.TheVariants as WI
 use Rattle.entry.specs.Entry.{entries_of}
 use Rattle.entry.specs.declared.RamdumpTable64.{RamdumpTable64}
 use Rattle.verdict.specs.Opening.{chunk_of}
-use Rattle.forecast_sums.specs.Forecast.{bytes_needed, reads_needed, passes, needs, forecast_of, forecast_chunk}
+use Rattle.forecast_sums.specs.Forecast.{bytes_needed, reads_needed, passes, needs, forecast_of}
 use Rattle.forecast_sums.specs.declared.Forecast.{Forecast}
 use Rattle.forecast_sums.proofs.Laws.{chunk_is}
 use Rattle.std.specs.Prelude.{Result, Ok}
