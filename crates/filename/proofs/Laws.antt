@@ -6,7 +6,7 @@ use mathlib.Core.List.{List, [], ◌∷◌}
 use Prim.Native.Nat.{ℕ, suc, ◌+◌, ◌<◌, ◌≤◌}
 use native.Mathlib.Omega.{arith}
 use lib.Dec.{eqb, ltb, lit<, leb-suc-suc}
-use lib.ListN.{length, get_or, take}
+use lib.ListN.{length, get_or, take, length-take}
 use borrow.Author.Tests.{lt-ltb, le-ltb, eqb-true, ltb-true}
 use Rattle.std.specs.List.{position, position_or_len}
 use Rattle.std.specs.Option.{unwrap_or}
@@ -116,6 +116,9 @@ opening_one name k t e l u =
     let h : has 0 name ≡ true = has_one 0 name (omega arith) in
     let v : utf8 (before 0 name) ≡ t = ap utf8 (sym (take_before 0 name k e)) ∙ sym u in
     rw (h, v) refl
+
+-- the bytes before the first zero, and what opening says by them
+pub ruleset opened = (length_before, length-take, opening_none, opening_one)
 
 -- what the two tests of a sound name say
 sound_utf8 : (t h : Bool) → pick t h false ≡ true → t ≡ true

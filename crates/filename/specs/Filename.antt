@@ -1,12 +1,11 @@
 -- Filenames: the stem, and the tests of a region's name. Document 01, "Selection": "Stem: the 20 filename bytes up to the first '.', all 20 if none,
 -- zeros included; empty if the 20 are not UTF-8." Refusals, opening a region: 19 filename without zero byte; 20 bytes before it not UTF-8;
 -- in the step after open: 21 the 20 not UTF-8. "A name is sound if its 20 bytes are UTF-8 and one of them is zero."
-use Rattle.std.specs.Prelude.{ℕ, Bool, true, false, List, [], ◌∷◌, eqb, Result, Ok, Err}
+use Rattle.std.specs.Prelude.{ℕ, Bool, true, false, List, [], ◌∷◌, eqb, Result, Err}
 use Rattle.base.specs.Choice.{pick}
 use Rattle.base.specs.Told.{Told}
 use Rattle.utf8.specs.Utf8.{utf8}
 use Rattle.refusal.specs.declared.Refusal.{Refusal}
-use Rattle.refusal.specs.declared.Refusal.TheVariants as Refusal
 use Rattle.refusal.specs.Refusal.{accepted, accepted_told}
 
 -- the bytes before the first b, all where there is none

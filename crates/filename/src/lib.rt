@@ -15,6 +15,7 @@ pub fn find(name: &[u8], b: u8) -> usize
 }
 
 // How many bytes of the name are its stem.
+#[tactic(auto, unfolding(crate::specs::Filename::stem_of))]
 pub fn stem_len(name: &[u8]) -> usize
     ensures { result ≡ length (stem_of name.now) }
 {
@@ -25,6 +26,7 @@ pub fn stem_len(name: &[u8]) -> usize
 }
 
 // What opening a region says of its name.
+#[tactic(auto, using(crate::proofs::Laws::opened))]
 pub fn check_open(name: &[u8]) -> Result<(), Refusal>
     ensures { Tells name_told result (open_check name.now) }
 {

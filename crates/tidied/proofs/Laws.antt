@@ -11,18 +11,18 @@ use borrow.Author.Tests.{ltb-false, lt-ltb, le-ltb}
 use lib.Dec.{ltb}
 use lib.ListN.{length, get_or, drop, length-append, length-map, get_or-append}
 use lib.Seq.{sets, get_or_at}
-use Rattle.base.proofs.Lists.{sets_append, sets_behind, sets_front}
+use Rattle.base.proofs.Lists.{sets_append, sets_behind}
 use Rattle.base.proofs.Ranges.{below_or_not, by_then, by_else}
 use Rattle.field.specs.Field.{le_bytes, fields, words}
 use Rattle.field.proofs.Laws.{length_fields, fields_stored}
 use Rattle.bundle.specs.Bundle.{count_of, well_formed}
+use Rattle.bundle.proofs.Laws.{formed}
 use Rattle.bundle.specs.Content.{Content, bytes_in, size_in, content_of}
 use Rattle.writer.specs.Writer.{data_of, start_for, starts_from, bundle_bytes, most_data}
 use Rattle.writer.proofs.Laws.{data_more, starts_more, length_starts, length_bundle}
 use Rattle.tidied.specs.Tidy.{first_contents, contents_of, tidy_bytes, tidy_data, tidy_len_of, tidy_of, tidy_outcome}
 use Rattle.std.specs.Prelude.{Ok, Err}
 use Rattle.refusal.specs.declared.Refusal.{Refusal}
-use Rattle.refusal.specs.declared.Refusal.TheVariants as Refusal
 
 -- the answers differ
 pub refused≢made : {why : Refusal} {k : ℕ} → Err why ≡ Ok k → ⊥
@@ -153,15 +153,15 @@ module _ (set : List ℕ) where
   pub length_tidy : length (tidy_bytes set) ≡ 8 + 8 * count_of set + tidy_data set
   length_tidy = length_bundle (contents_of set) ∙ ap (λ (k : ℕ). 8 + 8 * k + tidy_data set) (length_first (count_of set))
 
+  -- of at most 64 slots
+  pub few_slots : well_formed true set ≡ true → count_of set ≤ 64
+  few_slots h = (formed true set h).few
+
   -- ---- outcomes
 
   pub len_malformed : well_formed true set ≡ false → tidy_len_of set ≡ Err Refusal.TidySet
   unfolding tidy_len_of
   len_malformed h = simp h
-
-  pub len_passes : well_formed true set ≡ true → most_data < tidy_data set → tidy_len_of set ≡ Err Refusal.TidyRoom
-  unfolding tidy_len_of
-  len_passes h l = simp (h, lt-ltb most_data (tidy_data set) l)
 
   pub len_made : well_formed true set ≡ true → tidy_data set ≤ most_data → tidy_len_of set ≡ Ok (length (tidy_bytes set))
   unfolding tidy_len_of
@@ -175,6 +175,13 @@ module _ (set : List ℕ) where
       let u = by_else (ltb most_data (tidy_data set)) (Err Refusal.TidyRoom) _ refused≢made t.1 in
       (t.0, ltb-false _ _ u.0, (let q : length (tidy_bytes set) ≡ len = cc in q))
 
+  -- so its parts are known
+  pub tidy_room : (len : ℕ) → tidy_len_of set ≡ Ok len
+      → (len ≡ 8 + 8 * count_of set + tidy_data set) × (len ≡ length (tidy_bytes set)) × (tidy_data set ≤ most_data) × (count_of set ≤ 64)
+  tidy_room len e =
+      let m = made_of len e in
+      (omega (arith, m.2, length_tidy), sym m.2, m.1, few_slots m.0)
+
   module _ (to : List ℕ) where
     pub tidy_refused : (why : Refusal) → tidy_len_of set ≡ Err why → tidy_of set to ≡ tidy_outcome (Err why) to
     unfolding tidy_of
@@ -187,9 +194,3 @@ module _ (set : List ℕ) where
     pub tidy_fits : (len : ℕ) → tidy_len_of set ≡ Ok len → len ≤ length to → tidy_of set to ≡ tidy_outcome (Ok len) (tidy_bytes set ++ drop len to)
     unfolding tidy_of
     tidy_fits len e h = simp (e, le-ltb (length to) len h)
-
-    -- the form is stored from the buffer's beginning on
-    pub tidy_stored : (len : ℕ) (q : List ℕ) → tidy_len_of set ≡ Ok len → len ≤ length to → q ≡ sets to 0 (tidy_bytes set)
-        → tidy_outcome (Ok len) q ≡ tidy_of set to
-    tidy_stored len q e h x =
-        ap (tidy_outcome (Ok len)) (x ∙ sets_front (tidy_bytes set) to len (made_of len e).2 h) ∙ sym (tidy_fits len e h)

@@ -10,7 +10,6 @@ use Rattle.bundle.specs.Content.{Content, content_of}
 use Rattle.writer.specs.Writer.{data_of, bundle_bytes, most_data}
 use Rattle.refusal.specs.Refusal.{made_told}
 use Rattle.refusal.specs.declared.Refusal.{Refusal}
-use Rattle.refusal.specs.declared.Refusal.TheVariants as Refusal
 
 -- the contents of the first k slots, in slot order
 unfoldable pub first_contents : List ℕ → ℕ → List Content

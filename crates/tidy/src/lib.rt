@@ -23,7 +23,7 @@ use refusal::Refusal;
 use slot_sizes::{MOST, data_size, size_at, slot_count, start_at};
 
 // How long the tidy form of a set is.
-#[tactic(auto, unfolding(tidied::specs::Tidy::tidy_len_of))]
+#[tactic(auto, using(tidied::proofs::Laws::length_tidy, tidied::proofs::Laws::few_slots), unfolding(tidied::specs::Tidy::tidy_len_of))]
 pub fn tidy_len(set: &[u8]) -> Result<usize, Refusal>
     ensures { Tells tidied_told result (tidy_len_of set.now) }
 {
@@ -59,6 +59,7 @@ fn put_lengths(to: &mut [u8], at: usize, set: &[u8], n: usize)
 }
 
 // Writes the bytes of slot i.
+#[tactic(auto, using(bundle::proofs::Laws::slot_within, bundle::proofs::Laws::size_there, copy::proofs::Laws::copied_stored))]
 fn put_content(to: &mut [u8], at: usize, set: &[u8], i: usize)
     requires { at + size_in (content_of set.now i) ≤ length to.old }
     ensures { to.new ≡ sets to.old at (bytes_in (content_of set.now i)) }
@@ -83,6 +84,7 @@ fn put_data(to: &mut [u8], at: usize, set: &[u8], n: usize)
 }
 
 // Writes the tidy form, of n slots.
+#[tactic(auto, using(tidied::proofs::Laws::form_stored, tidied::proofs::Laws::length_first, writer::proofs::Laws::length_bundle))]
 fn put_form(to: &mut [u8], set: &[u8], n: usize, size: usize)
     requires { (length (bundle_bytes (first_contents set.now n)) ≤ length to.old)
         × (size ≡ length (data_of (first_contents set.now n)))
@@ -98,6 +100,7 @@ fn put_form(to: &mut [u8], set: &[u8], n: usize, size: usize)
 }
 
 // The tidy form, which is so long: written where it fits.
+#[tactic(auto, using(base::proofs::Lists::sets_front, tidied::proofs::Laws::tidy_room), unfolding(tidied::specs::Tidy::tidy_of))]
 fn tidy_of(set: &[u8], to: &mut [u8], len: usize) -> Result<usize, Refusal>
     requires { tidy_len_of set.now ≡ Ok len }
     ensures { tidy_outcome result to.new ≡ tidy_of set.now to.old }
