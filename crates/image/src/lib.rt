@@ -53,8 +53,7 @@ pub fn image_range_unjudged(
     let slot = slot_for(n, id);
     match slot_at(set, slot) {
         Slot::At(start, size) => part_of(start, size, offset, len),
-        Slot::Absent => Err(Refusal::NoImage),
-        Slot::Missing => Err(Refusal::NoImage),
+        Slot::Absent | Slot::Missing => Err(Refusal::NoImage),
     }
 }
 

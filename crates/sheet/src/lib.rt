@@ -36,13 +36,10 @@ const COLUMNS: usize = 20;
 fn printed_byte(b: u8) -> u8
     ensures { result ≡ printed b }
 {
-    if b < 0x20 {
-        return b'?';
+    match b {
+        0x20..=0x7e => b,
+        _ => b'?',
     }
-    if 0x7e < b {
-        return b'?';
-    }
-    b
 }
 
 // Column j of a filename of which k bytes stand before its first zero.
@@ -51,10 +48,7 @@ fn column(name: &[u8], k: usize, j: usize) -> u8
     requires { (k ≡ length (before 0 name.now)) × (j < 20) }
     ensures { result ≡ get_or (columns name.now) j 0 }
 {
-    if j < k {
-        return printed_byte(name[j]);
-    }
-    b' '
+    if j < k { printed_byte(name[j]) } else { b' ' }
 }
 
 // Writes a filename in its 20 columns.
@@ -75,10 +69,7 @@ fn hex_digit(d: u8) -> u8
     requires { d < 16 }
     ensures { result ≡ digit d }
 {
-    if d < 10 {
-        return b'0' + d;
-    }
-    b'A' + (d - 10)
+    if d < 10 { b'0' + d } else { b'A' + (d - 10) }
 }
 
 // Writes a number in 16 hexadecimal digits, stored from the last one back.
@@ -99,10 +90,7 @@ fn put_hex(page: &mut [u8], at: usize, v: u64)
 fn mark_of(preference: u64) -> u8
     ensures { result ≡ mark preference }
 {
-    if preference == 0 {
-        return b' ';
-    }
-    b'*'
+    if preference == 0 { b' ' } else { b'*' }
 }
 
 // Writes an entry's line.

@@ -25,8 +25,7 @@ pub fn size_at(set: &[u8], i: usize) -> usize
 {
     match slot_at(set, SlotNumber(i)) {
         Slot::At(_, size) => size,
-        Slot::Absent => 0,
-        Slot::Missing => 0,
+        Slot::Absent | Slot::Missing => 0,
     }
 }
 
@@ -37,8 +36,7 @@ pub fn start_at(set: &[u8], i: usize, before: u32) -> u32
 {
     match slot_at(set, SlotNumber(i)) {
         Slot::At(_, _) => before,
-        Slot::Absent => ABSENT,
-        Slot::Missing => ABSENT,
+        Slot::Absent | Slot::Missing => ABSENT,
     }
 }
 

@@ -66,8 +66,7 @@ fn put_content(to: &mut [u8], at: usize, set: &[u8], i: usize)
 {
     match slot_at(set, SlotNumber(i)) {
         Slot::At(from, size) => copy_into(to, at, &set[from..from + size], size),
-        Slot::Absent => {}
-        Slot::Missing => {}
+        Slot::Absent | Slot::Missing => {}
     }
 }
 

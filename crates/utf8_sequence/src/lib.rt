@@ -14,14 +14,7 @@ pub struct Follow(pub u8, pub u8, pub u8);
 fn there(low: u8, high: u8, s: &[u8], i: usize) -> bool
     ensures { result ≡ follows 1 low high (drop i s.now) }
 {
-    if s.len() <= i {
-        return false;
-    }
-    let b = s[i];
-    if b < low {
-        return false;
-    }
-    b <= high
+    i < s.len() && low <= s[i] && s[i] <= high
 }
 
 // Where the bytes that follow a lead byte, which are to begin at i, end; 0 where they are not there, or are to be more than three.
