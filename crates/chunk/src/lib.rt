@@ -8,6 +8,7 @@ ghost use Rattle.session.specs.RegionPhase.{due_after};
 use verdict::{Opening, QdlBackend};
 
 // The most that one memory read asks for.
+#[tactic(auto, unfolding(verdict::specs::Opening::chunk_of))]
 pub fn chunk_size(opening: Opening) -> usize
     ensures { result ≡ chunk_of opening }
 {

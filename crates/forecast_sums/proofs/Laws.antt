@@ -1,8 +1,8 @@
 -- Laws of the forecast: which chunk it counts with, what an answer that is no refusal tells, and that the sums of the functions come to the definition's.
 -- Assumes nothing.
-use Rattle.std.proofs.Common.{◌≡◌, ℕ, suc, ◌+◌, ◌-◌, ◌%◌, ◌^◌, ◌<◌, ◌≤◌, true, false, not, ◌||◌, eqb, List, [], ◌∷◌, length, sym, ap, refl, ◌∙◌, add-zero, add_assoc, mod-eq_of_lt, zero-add, arith, ltb-true, lt-ltb}
+use Rattle.std.proofs.Common.{◌≡◌, ℕ, suc, ◌+◌, ◌-◌, ◌%◌, ◌^◌, ◌<◌, ◌≤◌, true, false, not, ◌||◌, List, [], ◌∷◌, length, sym, ap, refl, ◌∙◌, add-zero, add_assoc, mod-eq_of_lt, zero-add, arith, ltb-true, lt-ltb}
 use Rattle.base.specs.Choice.{pick}
-use Rattle.base.proofs.Ranges.{by_test, by_else, either}
+use Rattle.base.proofs.Ranges.{by_test, by_else}
 use Rattle.bundle.specs.Bundle.{well_formed}
 use Rattle.entry.specs.declared.RamdumpTable64.{RamdumpTable64}
 use Rattle.verdict.specs.Opening.{chunks_in, chunk_of}
@@ -12,7 +12,6 @@ use Rattle.forecast_sums.specs.Sums.{start_of, more_of, add_all}
 use Rattle.forecast_sums.specs.declared.Forecast.{Forecast}
 use Rattle.std.specs.Prelude.{Result, Ok, Err}
 use Rattle.refusal.specs.declared.Refusal.{Refusal}
-use Rattle.refusal.specs.declared.Refusal.TheVariants as Refusal
 
 -- ---- the chunk
 

@@ -12,7 +12,6 @@ use Rattle.verdict.specs.Opening.{chunks_in}
 use Rattle.forecast_sums.specs.declared.Forecast.{Forecast}
 use Rattle.refusal.specs.Refusal.{result_told}
 use Rattle.refusal.specs.declared.Refusal.{Refusal}
-use Rattle.refusal.specs.declared.Refusal.TheVariants as Refusal
 
 -- an entry is selected
 unfoldable pub is_selected : List ℕ → RamdumpTable64 → Bool

@@ -6,7 +6,6 @@ use Rattle.bundle.specs.Bundle.{well_formed}
 use Rattle.entry.specs.declared.RamdumpTable64.{RamdumpTable64}
 use Rattle.verdict.specs.Opening.{chunks_in}
 use Rattle.refusal.specs.declared.Refusal.{Refusal}
-use Rattle.refusal.specs.declared.Refusal.TheVariants as Refusal
 use Rattle.forecast_sums.specs.declared.Forecast.{Forecast}
 use Rattle.forecast_sums.specs.Forecast.{is_selected, passes, needs}
 

@@ -23,6 +23,7 @@ pub struct Forecast {
 const CHUNK: u64 = 4096;
 
 // How many memory reads ask for so many bytes: the quotient, and one for a remainder. (A sum before the division could pass 2^64.)
+#[tactic(auto, unfolding(crate::specs::Forecast::forecast_chunk))]
 fn chunk_reads(len: u64) -> u64
     ensures { result ≡ chunks_in forecast_chunk len }
 {
