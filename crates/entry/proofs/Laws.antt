@@ -95,3 +95,7 @@ there_take f t i n h =
 
 pub entry_of_take : (f : ℕ) (t : List ℕ) (i n : ℕ) → entry_size f * (i + 1) ≤ n → entry_of f (take n t) i ≡ entry_of f t i
 entry_of_take f t i n h = part_of_first (entry_size f * i) (entry_size f) n t (rw (← next_place (entry_size f) i) h)
+
+pub entry_at_take : (f : ℕ) (t : List ℕ) (i n : ℕ) → entry_size f * (i + 1) ≤ n → entry_at f (take n t) i ≡ entry_at f t i
+unfolding entry_at
+entry_at_take f t i n h = rw (there_take f t i n h, entry_of_take f t i n h) refl

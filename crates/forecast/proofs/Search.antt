@@ -1,18 +1,19 @@
 -- The sums of a table's entries, the selected ones searched for: what is passed over adds nothing, so the sums so far, with the entries from the next
 -- selected one on, are the sums of them all. c is the chunk; the table t has f bytes a number. By induction on the entries left. Assumes nothing.
-use Rattle.std.proofs.Common.{◌≡◌, ℕ, zero, suc, ◌+◌, ◌-◌, ◌≤◌, ◌<◌, true, false, List, length, refl, sym, ap, subst, ◌∙◌, add-one, arith, lt-ltb}
+use Rattle.std.proofs.Common.{◌≡◌, ℕ, zero, suc, ◌+◌, ◌-◌, ◌≤◌, ◌<◌, true, false, List, length, drop, drop_of_length-le, refl, sym, ap, subst, ◌∙◌, add-one, arith, lt-ltb}
 use native.Mathlib.Nat.{sub-zero}
 use Rattle.std.specs.Prelude.{Result, Ok, Err}
 use Rattle.base.proofs.Ranges.{by_test}
 use Rattle.refusal.specs.declared.Refusal.{Refusal}
 use Rattle.entry.specs.Entry.{entries_in, entry_in, entries_from, entries_of}
-use Rattle.entry.proofs.Laws.{there_below}
+use Rattle.entry.specs.declared.RamdumpTable64.{RamdumpTable64}
+use Rattle.entry.proofs.Laws.{there_below, entry_found, length_entries}
 use Rattle.selection.specs.Selection.{selected, selected_at, next_of}
-use Rattle.selection.proofs.Laws.{next_here, next_on, next_none, next_selected}
+use Rattle.selection.proofs.Laws.{next_here, next_on, next_none, next_selected, next_from}
 use Rattle.forecast_sums.specs.Forecast.{is_selected}
 use Rattle.forecast_sums.specs.Sums.{more_of, add_all}
 use Rattle.forecast_sums.specs.declared.Forecast.{Forecast}
-use Rattle.forecast_sums.proofs.Laws.{stays, add_yes, add_no}
+use Rattle.forecast_sums.proofs.Laws.{stays, add_yes, add_no, sums_are}
 
 module _ (c : ℕ) (names : List ℕ) (f : ℕ) (t : List ℕ) where
   none_more : (i : ℕ) (s : Result Forecast Refusal) → add_all c names s (entries_from f t 0 i) ≡ s
@@ -101,3 +102,17 @@ module _ (c : ℕ) (names : List ℕ) (f : ℕ) (t : List ℕ) where
   pub refused : (n i : ℕ) (s : Forecast) (whole : Result Forecast Refusal) (why : Refusal) → n ≤ entries_in f (length t) → i < n
       → Searched n i (Ok s) whole → more_of c s (entry_in f t i).len ≡ Err why → whole ≡ Err why
   refused n i s whole why h l g e = sym (taken n i s whole h l g) ∙ rw e (stays c names (entries_from f t (n - (i + 1)) (i + 1)) why)
+
+-- ---- a list, one entry after the other
+
+-- behind the last entry none is left
+pub none_left : (c : ℕ) (names : List ℕ) (es : List RamdumpTable64) (i : ℕ) (s : Result Forecast Refusal) → length es ≤ i
+    → add_all c names s (drop i es) ≡ s
+unfolding add_all
+none_left c names es i s h = rw drop_of_length-le refl
+
+-- behind the last entry of a list the sums are its forecast
+pub ruleset of_a_list = (none_left, sums_are)
+
+-- an entry of a table that is searched for is there, the search goes on, and behind the last one the sums are the table's forecast
+pub ruleset of_a_table = (finished, entry_found, length_entries, next_from, sums_are)

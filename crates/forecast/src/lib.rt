@@ -14,6 +14,7 @@ use refusal::Refusal;
 use selection::next_selected;
 
 // Of a list of entries.
+#[tactic(auto, using(crate::proofs::Search::of_a_list))]
 pub fn forecast(entries: &[RamdumpTable64], names: &[u8]) -> Result<Forecast, Refusal>
     ensures { Tells forecast_told result (forecast_of forecast_chunk entries.now names.now) }
 {
@@ -25,6 +26,7 @@ pub fn forecast(entries: &[RamdumpTable64], names: &[u8]) -> Result<Forecast, Re
 }
 
 // Of the entries of a table: the selected ones are searched for as a step does it.
+#[tactic(auto, using(crate::proofs::Search::of_a_table))]
 pub fn forecast_table(table: &[u8], width: Width, names: &[u8]) -> Result<Forecast, Refusal>
     ensures { Tells forecast_told result (forecast_of forecast_chunk (entries_of (field_size width) table.now) names.now) }
 {

@@ -21,7 +21,8 @@ use Rattle.session.specs.declared.Region.{Region}
 use Rattle.session.specs.declared.Session.{Session}
 use Rattle.session.specs.declared.Counted.{Counted}
 use Rattle.session.specs.Outcome.{Outcome}
-use Rattle.entry.specs.Entry.{entry_size, entries_in}
+use Rattle.entry.specs.Entry.{entry_size, entries_in, there}
+use Rattle.turn.proofs.Laws.{entry_within}
 use Rattle.session.specs.RegionPhase.{asks_for, next_chunk, ask_of, hand_of, region_of}
 use Rattle.session.specs.Limits.{region_limit}
 use Rattle.session.specs.Guard.{region_step}
@@ -31,7 +32,6 @@ use Rattle.region_phase.specs.declared.Advance.TheVariants as D
 use Rattle.base.proofs.Tests.{neither}
 use Rattle.std.specs.Prelude.{Result, Ok, Err}
 use Rattle.refusal.specs.declared.Refusal.{Refusal}
-use Rattle.refusal.specs.declared.Refusal.TheVariants as Refusal
 
 pub record InLimits (f k : ℕ) (x : Region) (t : List ℕ) : Type 0 where
   pub table : k ≤ length t
@@ -115,33 +115,29 @@ module _ (v : Width) (u : Opening) (m : ℕ) (x : Region) (n : ℕ) (o : List �
       (λ e. by_test (ltb (2 ^ 63 + 1) m || region_limit (field_size v) k x t) (λ l. left (rw (e, l) at q)) (λ l. within_still (rw (e, l) at q)))
 
 -- what a region's step comes to is told apart
-pub refused≢begins : (why : Refusal) → ◌≡◌ {A = Result Advance Refusal} (Err why) (Ok D.Begins) → ⊥
+refused≢begins : (why : Refusal) → ◌≡◌ {A = Result Advance Refusal} (Err why) (Ok D.Begins) → ⊥
 refused≢begins why q = let z : ◌≡◌ {A = ℕ} 0 1 = cc in omega arith
 
-pub refused≢closes : (why : Refusal) → ◌≡◌ {A = Result Advance Refusal} (Err why) (Ok D.Closes) → ⊥
+refused≢closes : (why : Refusal) → ◌≡◌ {A = Result Advance Refusal} (Err why) (Ok D.Closes) → ⊥
 refused≢closes why q = let z : ◌≡◌ {A = ℕ} 0 1 = cc in omega arith
 
-pub begins≢to : (c : Counted) → ◌≡◌ {A = Result Advance Refusal} (Ok D.Begins) (Ok (D.To c)) → ⊥
+begins≢to : (c : Counted) → ◌≡◌ {A = Result Advance Refusal} (Ok D.Begins) (Ok (D.To c)) → ⊥
 begins≢to c q = let z : D.Begins ≡ D.To c = cc in let y : ◌≡◌ {A = ℕ} 0 1 = cc in omega arith
 
 -- the entry behind one of the table's has a number
-pub next_fits : (f k i : ℕ) → i < entries_in f k → Fits w64 k → i + 1 < 2 ^ 64
+next_fits : (f k i : ℕ) → i < entries_in f k → Fits w64 k → i + 1 < 2 ^ 64
 next_fits f k i h w =
     let n : ℕ = entry_size f in
     let q : (i + 1) * n ≤ k = (le-div_iff_mul-le {k = n} (omega arith)).0 (omega arith) in
     omega arith
 
--- nothing is done or outstanding, so nothing is done
-pub none_done : (done outstanding : ℕ) → done + outstanding ≡ 0 → done ≡ 0
-none_done done outstanding e = omega arith
-
 -- what is not refused has room, and every count is within its limit
-pub record Passed (v : Width) (m k : ℕ) (x : Region) (t o : List ℕ) : Type 0 where
+record Passed (v : Width) (m k : ℕ) (x : Region) (t o : List ℕ) : Type 0 where
   pub room : 48 ≤ length o
   pub reads : m ≤ 2 ^ 63 + 1
   pub within : InLimits (field_size v) k x t
 
-pub advance_passed : (v : Width) (u : Opening) (m k : ℕ) (x : Region) (n : ℕ) (t o : List ℕ) {a : Advanced}
+advance_passed : (v : Width) (u : Opening) (m k : ℕ) (x : Region) (n : ℕ) (t o : List ℕ) {a : Advanced}
     → ((why : Refusal) → advanced (Err why) o ≡ a → ⊥) → advance_of v u m k x n t o ≡ a → Passed v m k x t o
 unfolding advance_of
 advance_passed v u m k x n t o never q =
@@ -149,3 +145,14 @@ advance_passed v u m k x n t o never q =
     let l = by_else (ltb (2 ^ 63 + 1) m || region_limit (field_size v) k x t) _ _ (never Refusal.Limit) r.1 in
     let b = neither (ltb (2 ^ 63 + 1) m) (region_limit (field_size v) k x t) l.0 in
     record { room = ltb-false (length o) 48 r.0; reads = ltb-false (2 ^ 63 + 1) m b.0; within = region_within (field_size v) k x t b.1 }
+
+-- where a region begins the out buffer has room as before, and the entry is there; where it closes the next entry has a number
+module _ (v : Width) (u : Opening) (m k : ℕ) (x : Region) (n : ℕ) (t o p : List ℕ) where
+  pub begins : advance_of v u m k x n t o ≡ advanced (Ok D.Begins) p → (48 ≤ length p) × (there (field_size v) t x.entry ≡ true) × (m ≤ 2 ^ 63 + 1)
+  begins q =
+      let r = advance_passed v u m k x n t o (λ why e. refused≢begins why (to e)) q in
+      let h : p ≡ o = advance_still v u m x n o begins≢to k t q in
+      (rw h r.room, entry_within (field_size v) k x.entry t r.within.entry r.within.table, r.reads)
+
+  pub closes : advance_of v u m k x n t o ≡ advanced (Ok D.Closes) p → Fits w64 k → x.entry + 1 < 2 ^ 64
+  closes q w = next_fits (field_size v) k x.entry (advance_passed v u m k x n t o (λ why e. refused≢closes why (to e)) q).within.entry w

@@ -14,7 +14,6 @@ use Rattle.session.specs.RegionPhase.{emptied_of, asked_of, asked_out, handed_of
 use Rattle.session.specs.Limits.{region_limit}
 use Rattle.region_phase.specs.declared.Advance.{Advance}
 use Rattle.region_phase.specs.declared.Advance.TheVariants as D
-use Rattle.refusal.specs.declared.Refusal.TheVariants as Refusal
 use Rattle.refusal.specs.declared.Refusal.{Refusal}
 
 -- what is to be done, and the out buffer afterwards

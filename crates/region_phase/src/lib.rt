@@ -185,7 +185,7 @@ fn begin_region(s: Session, k: usize, x: Region, table: &[u8], out: &mut [u8]) -
 }
 
 // A step in a region: k is the table's length, x the region.
-#[tactic(auto, unfolding(session::specs::Guard::region_step, session::specs::RegionPhase::region_of, session::specs::RegionPhase::ask_of, session::specs::RegionPhase::hand_of))]
+#[tactic(auto, using(crate::proofs::Laws::advance_is))]
 pub fn region_step(
     s: Session,
     k: usize,

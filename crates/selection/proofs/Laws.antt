@@ -2,11 +2,11 @@
 use mathlib.Core.Path.{◌≡◌, refl, sym, ap, ◌∙◌}
 use mathlib.Core.Bool.{Bool, true, false}
 use mathlib.Core.List.{List, [], ◌∷◌, map}
-use Prim.Native.Nat.{ℕ, zero, suc, ◌+◌, ◌-◌, ◌/◌, ◌<◌, ◌≤◌}
+use Prim.Native.Nat.{ℕ, zero, suc, ◌+◌, ◌-◌, ◌/◌, ◌<◌, ◌≤◌, ◌*◌}
 use native.Mathlib.Omega.{arith}
 use native.Mathlib.Numerals.{add-one}
-use native.Mathlib.Nat.{le_refl, sub-zero}
-use borrow.Author.Tests.{eqb-true, eq-eqb, le-ltb, ltb-false, leb-true, leb-false, clash}
+use native.Mathlib.Nat.{le_refl, sub-zero, add-suc, suc-add, mul-le-mul_left, le_trans}
+use borrow.Author.Tests.{eqb-true, eq-eqb, le-ltb, ltb-false, leb-true, leb-false, clash, eqb-false}
 use lib.Dec.{eqb, leb}
 use Rattle.std.specs.Char.{to_ascii_lowercase}
 use Rattle.std.proofs.lemmas.Str.Ascii.{lowercase_is}
@@ -19,7 +19,7 @@ use Rattle.bundle.specs.declared.Slot.TheVariants.{At}
 use Rattle.entry.specs.Entry.{entry_size, there, entry_at}
 use Rattle.std.specs.Prelude.{Some, None}
 use Rattle.entry.specs.declared.RamdumpTable64.{RamdumpTable64}
-use Rattle.entry.proofs.Laws.{there_below, entry_told, entry_untold}
+use Rattle.entry.proofs.Laws.{there_below, entry_told, entry_untold, there_take, entry_of_take}
 use Rattle.selection.specs.Selection.{low, with_name, names_from, same, member, selected_by, selected, selected_at, next_of}
 
 -- the library lowers a byte as the definition does, and so a string of them
@@ -161,6 +161,14 @@ next_from f names t (suc k) i =
     (λ h. rw (next_here f names t k i h) (le_refl i))
     (λ h. rw (next_on f names t k i h) (omega (arith, next_from f names t k (suc i))))
 
+-- and not behind the k
+pub next_to : (f : ℕ) (names t : List ℕ) (k i : ℕ) → next_of f names t k i ≤ i + k
+next_to f names t zero i = rw next_none (omega arith)
+next_to f names t (suc k) i =
+    by_test (selected_at f names t i)
+    (λ h. rw (next_here f names t k i h) (omega arith))
+    (λ h. rw (next_on f names t k i h) (omega (arith, next_to f names t k (suc i))))
+
 -- where there is one, it is selected
 pub next_selected : (f : ℕ) (names t : List ℕ) (k i : ℕ) → next_of f names t k i < i + k → selected_at f names t (next_of f names t k i) ≡ true
 next_selected f names t zero i l = absurd (omega (arith, next_none f names t i))
@@ -168,6 +176,34 @@ next_selected f names t (suc k) i l =
     by_test (selected_at f names t i)
     (λ h. ap (selected_at f names t) (next_here f names t k i h) ∙ h)
     (λ h. ap (selected_at f names t) (next_on f names t k i h) ∙ next_selected f names t k (suc i) (omega (arith, next_on f names t k i h)))
+
+-- and none before it is
+pub next_first : (f : ℕ) (names t : List ℕ) (k i j : ℕ) → i ≤ j → j < next_of f names t k i → selected_at f names t j ≡ false
+next_first f names t zero i j h l = absurd (omega (arith, next_none f names t i))
+next_first f names t (suc k) i j h l =
+    by_test (selected_at f names t i)
+    (λ e. absurd (omega (arith, next_here f names t k i e)))
+    (λ e.
+    by_test (eqb i j)
+    (λ q. ap (selected_at f names t) (sym (eqb-true i j q)) ∙ e)
+    (λ q.
+    let n : i ≡ j → ⊥ = eqb-false i j q in
+    next_first f names t k (suc i) j (omega arith) (omega (arith, next_on f names t k i e))))
+
+-- whether an entry is selected depends on the table's bytes up to its end alone
+pub selected_at_take : (f : ℕ) (names t : List ℕ) (i n : ℕ) → entry_size f * (i + 1) ≤ n → selected_at f names (take n t) i ≡ selected_at f names t i
+selected_at_take f names t i n h = rw (there_take f t i n h, entry_of_take f t i n h) refl
+
+-- so does the next selected one, on the bytes up to the end of the k entries
+pub next_take : (f : ℕ) (names t : List ℕ) (k i n : ℕ) → entry_size f * (i + k) ≤ n → next_of f names (take n t) k i ≡ next_of f names t k i
+next_take f names t zero i n h = next_none f names (take n t) i ∙ sym (next_none f names t i)
+next_take f names t (suc k) i n h =
+    let m : entry_size f * (i + 1) ≤ n = le_trans (mul-le-mul_left (entry_size f) (omega arith)) h in
+    let e : selected_at f names (take n t) i ≡ selected_at f names t i = selected_at_take f names t i n m in
+    let r : next_of f names (take n t) k (suc i) ≡ next_of f names t k (suc i) = next_take f names t k (suc i) n (rw (suc-add, ← add-suc) h) in
+    by_test (selected_at f names t i)
+    (λ s. next_here f names (take n t) k i (e ∙ s) ∙ sym (next_here f names t k i s))
+    (λ s. next_on f names (take n t) k i (e ∙ s) ∙ r ∙ sym (next_on f names t k i s))
 
 -- a slot of a list of names, told: where the search ends
 pub ruleset name_steps = (slot_within, lowered_is, named_all, named_done, named_here)

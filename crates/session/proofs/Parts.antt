@@ -10,11 +10,10 @@ use Rattle.bundle.specs.Bundle.{well_formed}
 use Rattle.session.specs.declared.Phase.{Phase}
 use Rattle.session.specs.declared.Phase.TheVariants as P
 use Rattle.session.specs.declared.Session.{Session}
-use Rattle.session.specs.declared.Answer.TheVariants as A
-use Rattle.session.specs.Outcome.{ended, gives, is_ended, untouched}
+use Rattle.session.specs.Outcome.{is_ended, untouched}
 use Rattle.field.specs.Field.{field_size}
 use Rattle.session.specs.Limits.{reads_limit, phase_limit, limit_of}
-use Rattle.session.specs.Step.{on_phase, step_of, closed_of}
+use Rattle.session.specs.Step.{on_phase, step_of}
 use Rattle.session.specs.Guard.{packet_step, response_step, switched_step, table_step, between_step, region_step, phase_step}
 use Rattle.refusal.specs.declared.Refusal.TheVariants as Refusal
 
@@ -49,11 +48,3 @@ module _ (s : Session) (d set names t y o : List ℕ) where
   pub step_phase : well_formed true set ≡ true → well_formed false names ≡ true → step_of s d set names t y o ≡ phase_step s d set names t y o s.phase
   unfolding step_of limit_of
   step_phase e f = rw (e, f) (rest s.phase)
-
--- ---- the channel's end
-
-pub closed_live : (s : Session) → is_ended s.phase ≡ false → closed_of s ≡ gives (ended s) 0 (A.Refused Refusal.Closed)
-closed_live s e = rw e refl
-
-pub closed_ended : (s : Session) → is_ended s.phase ≡ true → closed_of s ≡ gives s 0 (A.Refused Refusal.Ended)
-closed_ended s e = rw e refl

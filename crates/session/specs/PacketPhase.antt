@@ -13,7 +13,6 @@ use Rattle.session.specs.declared.Phase.TheVariants as P
 use Rattle.session.specs.declared.Session.{Session}
 use Rattle.session.specs.declared.Answer.TheVariants as A
 use Rattle.session.specs.Outcome.{reading, holding, of_width, ended, filling, Outcome, outcome, gives}
-use Rattle.refusal.specs.declared.Refusal.TheVariants as Refusal
 use Rattle.refusal.specs.declared.Refusal.{Refusal}
 
 -- the window with bytes x behind the first h held ones; what passes 48 bytes is not kept, and what stood behind x stays: a session's every byte is told.

@@ -21,7 +21,6 @@ use Rattle.session.specs.declared.Stepped.{Stepped}
 use Rattle.session.specs.declared.Counted.{Counted}
 use Rattle.session.specs.Outcome.{in_phase, reading, ended, region, Outcome, outcome, gives}
 use Rattle.refusal.specs.declared.Refusal.{Refusal}
-use Rattle.refusal.specs.declared.Refusal.TheVariants as Refusal
 
 -- "On USB a chunk that is a multiple of 512 makes one empty read due when its last byte is handed out, that is, when nothing is outstanding and done is a
 -- multiple of 512". The test is of done: every chunk but a region's last is a multiple of 512, so done is one just where the chunk is

