@@ -22,16 +22,12 @@ pub struct Forecast {
 // The most that one memory read asks for.
 const CHUNK: u64 = 4096;
 
-// How many memory reads ask for so many bytes: the quotient, and one for a remainder. (A sum before the division could pass 2^64.)
+// How many memory reads ask for so many bytes.
 #[tactic(auto, unfolding(crate::specs::Forecast::forecast_chunk))]
 fn chunk_reads(len: u64) -> u64
     ensures { result ≡ chunks_in forecast_chunk len }
 {
-    let whole = len / CHUNK;
-    if len % CHUNK == 0 {
-        return whole;
-    }
-    whole + 1
+    len.div_ceil(CHUNK)
 }
 
 // Before the first entry: the table's read.
