@@ -78,7 +78,10 @@ unfolding entries_from
 length_entries f t zero i = refl
 length_entries f t (suc k) i = ap suc (length_entries f t k (suc i))
 
--- the filename of an entry that is there has its 20 bytes
+-- an entry that is there has its bytes, and its filename 20
+pub length_entry : (f : ℕ) (t : List ℕ) (i : ℕ) → there f t i ≡ true → length (entry_of f t i) ≡ entry_size f
+length_entry f t i h = simp (length-take, length-drop) (omega (arith, there_fits f t i h))
+
 pub length_filename : (f : ℕ) (t : List ℕ) (i : ℕ) → there f t i ≡ true → length (filename_of f (entry_of f t i)) ≡ 20
 length_filename f t i h = simp (length-take, length-drop) (omega (arith, there_fits f t i h))
 

@@ -15,6 +15,7 @@ ghost use Rattle.raw.specs.Raw.{
   no_region,
   no_place,
   is_phase,
+  width_of,
   raw_of,
   session_of,
   is_session,
@@ -258,6 +259,14 @@ fn is_phase(r: RawSession) -> bool
 
 // ---- the session
 
+// The width that a number is read as: 64 bits where it names none.
+#[tactic(auto, using(crate::proofs::Laws::width_read))]
+pub fn width_of(n: u64) -> Width
+    ensures { result ≡ width_of n }
+{
+    Width::try_from(n).unwrap_or(Width::Bits64)
+}
+
 // Whether the numbers are a session's.
 #[tactic(auto, unfolding(crate::specs::Raw::is_session))]
 pub fn is_session(r: RawSession) -> bool
@@ -274,7 +283,7 @@ pub fn session_of(r: RawSession) -> Session
     Session {
         opening: opening_of(r.mode, r.command, r.backend),
         reads: r.reads,
-        width: Width::try_from(r.width).unwrap_or(Width::Bits64),
+        width: width_of(r.width),
         window,
         phase: phase_of(r),
     }

@@ -9,7 +9,6 @@ ghost use Rattle.raw_step.specs.RawStep.{raw_outcome, step_raw, wanted_raw};
 ghost use Rattle.raw_place.specs.Place.{ready_at};
 
 use bundle::{check_images, check_names};
-use field::Width;
 use in_place::{
     BACKEND, COMMAND, COUNT, MODE, PHASE, READS, REGION, WIDTH, count, in_region, placed,
     region_at, waits_at,
@@ -52,7 +51,7 @@ pub fn step_in_place(
     }
     let x = region_at(numbers);
     let opening = raw::opening_of(head[MODE], head[COMMAND], head[BACKEND]);
-    let width = Width::try_from(numbers[WIDTH]).unwrap_or(Width::Bits64);
+    let width = raw::width_of(numbers[WIDTH]);
     let k = numbers[COUNT] as usize;
     let came = delivery.len();
     match advance_region(width, opening, numbers[READS], k, x, came, table, out) {

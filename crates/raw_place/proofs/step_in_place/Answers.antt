@@ -8,9 +8,7 @@ use lib.ListN.{length, get_or}
 use Rattle.std.proofs.Common.{rules}
 use Rattle.base.proofs.Ranges.{by_then}
 use Rattle.bundle.specs.Bundle.{well_formed}
-use Rattle.field.specs.declared.NoWidth.{NoWidth}
 use Rattle.field.specs.declared.Width.{Width}
-use Rattle.field.specs.declared.Width.TheVariants as WI
 use Rattle.verdict.specs.declared.Opening.{Opening}
 use Rattle.session.specs.declared.Region.{Region}
 use Rattle.session.specs.declared.Counted.{Counted}
@@ -18,8 +16,6 @@ use Rattle.region_phase.specs.declared.Advance.{Advance}
 use Rattle.region_phase.specs.declared.Advance.TheVariants as D
 use Rattle.region_phase.specs.Advance.{advanced, advance_of}
 use Rattle.region_phase.proofs.Laws.{advance_still}
-use Rattle.std.specs.Result.{result_unwrap_or}
-use Rattle.raw.proofs.Laws.{width_read}
 use Rattle.raw.specs.declared.RawTold.{RawTold}
 use Rattle.raw.specs.Raw.{opening_of, width_of, told_of, stepped_at}
 use Rattle.in_place.specs.Place.{raw_at, in_region, region_at}
@@ -57,7 +53,7 @@ come-to c v e =
     ap (λ (z : Result Advance Refusal). advanced z (after c)) (sym e)
     ∙ c.advance_region.ensures
     ∙ ap (λ (z : Width). advance_of z c.opening_of-opening.result (get_or n 0 0) (get_or n 1 0) x m a.table.now a.out.now)
-    (c.unwrap_or-width.ensures ∙ ap (λ (z : Result Width NoWidth). result_unwrap_or z WI.Bits64) c.try_from.ensures ∙ width_read (get_or n 8 0))
+    c.width_of-width.ensures
     ∙ ap (λ (z : Opening). advance_of (width_of (get_or n 8 0)) z (get_or n 0 0) (get_or n 1 0) x m a.table.now a.out.now)
     c.opening_of-opening.ensures
     ∙ ap (λ (z : Region). advance_of (width_of (get_or n 8 0)) (opening_of (get_or h 0 0) (get_or h 1 0) (get_or h 2 0)) (get_or n 0 0) (get_or n 1 0) z m a.table.now a.out.now)
