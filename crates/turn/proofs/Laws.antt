@@ -24,7 +24,6 @@ use Rattle.turn.specs.Turn.{guard_of}
 use Rattle.std.specs.Prelude.{Result, Ok, Err}
 use Rattle.refusal.specs.Refusal.{accepted}
 use Rattle.refusal.specs.declared.Refusal.{Refusal}
-use Rattle.refusal.specs.declared.Refusal.TheVariants as Refusal
 
 -- nothing is refused: neither test holds
 none : (a b : Bool) → pick a (Err Refusal.OutBuffer) (pick b (Err Refusal.Limit) accepted) ≡ accepted → (a ≡ false) × (b ≡ false)

@@ -3,7 +3,6 @@ use Rattle.std.specs.Prelude.{Bool, ◌||◌, List, ℕ, Result, Err, ltb, lengt
 use Rattle.base.specs.Choice.{pick}
 use Rattle.refusal.specs.Refusal.{accepted}
 use Rattle.refusal.specs.declared.Refusal.{Refusal}
-use Rattle.refusal.specs.declared.Refusal.TheVariants as Refusal
 use Rattle.session.specs.declared.Session.{Session}
 use Rattle.session.specs.Limits.{reads_limit}
 

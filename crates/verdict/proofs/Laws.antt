@@ -14,7 +14,6 @@ use Rattle.packet.specs.declared.SaharaPacketBody.TheVariants as B
 use Rattle.verdict.specs.Verdict.{on_body, on_decoded, verdict_of}
 use Rattle.verdict.specs.declared.Opening.{Opening}
 use Rattle.verdict.specs.declared.Verdict.{Verdict}
-use Rattle.refusal.specs.declared.Refusal.TheVariants as Refusal
 use Rattle.std.specs.Prelude.{Result, Err}
 use Rattle.refusal.specs.declared.Refusal.{Refusal}
 

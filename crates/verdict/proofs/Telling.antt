@@ -10,7 +10,6 @@ use Rattle.base.specs.Told.{Told}
 use Rattle.refusal.proofs.Laws.{result_apart}
 use mathlib.Core.Bool.{false}
 use Rattle.verdict.specs.declared.Finish.{Finish}
-use Rattle.verdict.specs.declared.Finish.TheVariants as Finish
 use Rattle.field.specs.declared.Width.TheVariants as WI
 use Rattle.command.specs.Command.{command_of}
 use Rattle.command.specs.declared.SaharaCmdModeCmd.{SaharaCmdModeCmd}

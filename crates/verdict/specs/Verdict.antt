@@ -22,10 +22,8 @@ use Rattle.verdict.specs.declared.Opening.{Opening}
 use Rattle.verdict.specs.declared.Verdict.{Verdict}
 use Rattle.verdict.specs.declared.Verdict.TheVariants as W
 use Rattle.refusal.specs.declared.Refusal.{Refusal}
-use Rattle.refusal.specs.declared.Refusal.TheVariants as Refusal
 use Rattle.packet.specs.declared.SaharaPacket.{SaharaPacket}
 use Rattle.verdict.specs.declared.Finish.{Finish}
-use Rattle.verdict.specs.declared.Finish.TheVariants as Finish
 
 -- "finished" with 1 to 4: 1 by DoneResp, 2 by ResetResp, 3 behind the last selected entry, 4 with a response (the phases of session/specs)
 abbrev pub finish_number : Finish → ℕ
