@@ -11,7 +11,7 @@ use lib.Seq.{sets, take_all, get_or-take, get_or-append-add, length-sets}
 use Rattle.base.proofs.Lists.{sets_append, sets_more, set_sets}
 use Rattle.entry.specs.Entry.{entry_size, entries_in, entry_in}
 use Rattle.entry.specs.declared.RamdumpTable64.{RamdumpTable64}
-use Rattle.entry.proofs.Laws.{there_below, length_filename, entry_told, entry_found}
+use Rattle.entry.proofs.Laws.{there_below, length_filename}
 use Rattle.filename.specs.Filename.{before}
 use Rattle.filename.proofs.Laws.{length_before, take_before}
 use Rattle.sheet.specs.Sheet.{blank, line_feed, printed, columns, digit, hex, mark, text_of, line_of, lines_of, sheet_bytes, sheet_size}
@@ -135,6 +135,3 @@ module _ (f : ℕ) (t : List ℕ) where
 
 -- the stores of a line, and that none changes the page's length
 pub ruleset line_steps = (line_stored, length-sets)
-
--- an entry that is found, and its line behind those before it
-pub ruleset lines_steps = (entry_told, entry_found, lines_more)

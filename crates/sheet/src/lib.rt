@@ -111,7 +111,7 @@ fn put_line(page: &mut [u8], at: usize, e: RamdumpTable64)
 }
 
 // Writes the lines of a table's first n entries.
-#[tactic(auto, using(crate::proofs::Laws::lines_steps), unfolding(crate::specs::Sheet::lines_of))]
+#[tactic(auto, using(entry::proofs::Laws::entry_found), unfolding(crate::specs::Sheet::lines_of))]
 fn put_lines(page: &mut [u8], table: &[u8], width: Width, n: usize)
     requires { (n ≤ entries_in (field_size width) (length table.now)) × (57 * n ≤ length page.old) }
     ensures { page.new ≡ sets page.old 0 (lines_of (field_size width) table.now n) }
