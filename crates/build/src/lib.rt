@@ -1,14 +1,14 @@
 // The packets that the host sends, built into a lent out buffer.
 #![tactic(auto, unfolding(crate::specs::Build::bytes_of, field::specs::Field::fields, field::specs::Field::le_bytes))]
 
-ghost use Rattle.std.specs.Prelude.{◌≡◌, [], ◌∷◌, ◌%◌, ◌^◌};
+ghost use Rattle.std.specs.Prelude.{◌≡◌, [], ◌∷◌, ◌+◌, ◌≤◌, ◌%◌, ◌^◌};
 ghost use Rattle.std.proofs.lemmas.List.Edits.{sets};
-ghost use Rattle.field.specs.Field.{words};
+ghost use Rattle.field.specs.Field.{le_bytes, words};
 ghost use Rattle.base.specs.Told.{Tells};
 ghost use Rattle.build.specs.Build.{bytes_of, size_of, read_size, build_of, build_outcome, build_told};
 
 use command::{SaharaCmd, SaharaCmdModeCmd, SaharaMode};
-use field::{Number, Width};
+use field::{Number, Width, put};
 use refusal::Refusal;
 
 // What is to be sent.
@@ -34,12 +34,21 @@ const SWITCH_MODE: u32 = 0x0c;
 
 const EXECUTE: u32 = 0x0d;
 
+// A number within the out buffer.
+#[tactic(auto, unfolding(field::specs::Field::put_at))]
+fn store<T: Number>(out: &mut [u8; LEAST], at: usize, v: T)
+    requires { at + T.SIZE ≤ 48 }
+    ensures { out.new ≡ sets out.old at (le_bytes T.SIZE (T.value v)) }
+{
+    put(out, at, v).unwrap();
+}
+
 // A packet's header.
 fn sahara_send_generic(out: &mut [u8; LEAST], cmd: u32, len: u32)
     ensures { out.new ≡ sets out.old 0 (words (cmd ∷ len ∷ [])) }
 {
-    cmd.store(out, 0);
-    len.store(out, 4);
+    store(out, 0, cmd);
+    store(out, 4, len);
 }
 
 // A packet whose body is one word.
@@ -47,20 +56,20 @@ fn one_word(out: &mut [u8; LEAST], cmd: u32, v: u32)
     ensures { out.new ≡ sets out.old 0 (words (cmd ∷ 12 ∷ v ∷ [])) }
 {
     sahara_send_generic(out, cmd, 12);
-    v.store(out, 8);
+    store(out, 8, v);
 }
 
 // HelloResp's body: version, compatible, status, mode, six words of 0.
 fn hello_body(out: &mut [u8; LEAST], mode: u32)
     ensures { out.new ≡ sets out.old 8 (words (2 ∷ 1 ∷ 0 ∷ mode ∷ 0 ∷ 0 ∷ 0 ∷ 0 ∷ 0 ∷ 0 ∷ [])) }
 {
-    2u32.store(out, 8);
-    1u32.store(out, 12);
-    0u32.store(out, 16);
-    mode.store(out, 20);
-    0u64.store(out, 24);
-    0u64.store(out, 32);
-    0u64.store(out, 40);
+    store(out, 8, 2u32);
+    store(out, 12, 1u32);
+    store(out, 16, 0u32);
+    store(out, 20, mode);
+    store(out, 24, 0u64);
+    store(out, 32, 0u64);
+    store(out, 40, 0u64);
 }
 
 // The bytes of a memory read.
@@ -87,13 +96,13 @@ fn mem_read(out: &mut [u8; LEAST], width: Width, addr: u64, len: u64)
     match width {
         Width::Bits32 => {
             sahara_send_generic(out, u32::from(SaharaCmd::MemRead), 16);
-            low_word(addr).store(out, 8);
-            low_word(len).store(out, 12);
+            store(out, 8, low_word(addr));
+            store(out, 12, low_word(len));
         }
         Width::Bits64 => {
             sahara_send_generic(out, u32::from(SaharaCmd::MemRead64), 24);
-            addr.store(out, 8);
-            len.store(out, 16);
+            store(out, 8, addr);
+            store(out, 16, len);
         }
     }
 }

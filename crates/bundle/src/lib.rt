@@ -20,7 +20,7 @@ ghost use Rattle.bundle.specs.Bundle.{
   slot_told,
 };
 
-use field::Number;
+use field::field_at;
 use refusal::Refusal;
 
 // A slot's number in a bundle. It is no image ID: only the one-image rule (crate image) makes one of the other.
@@ -36,11 +36,12 @@ pub enum Slot {
 }
 
 // A number that lies within the bytes.
+#[tactic(auto, unfolding(field::specs::Field::field_at))]
 fn number(b: &[u8], at: usize) -> usize
     requires { at + 4 ≤ length b.now }
     ensures { (result ≡ le 4 (drop at b.now)) × (result < 4294967296) }
 {
-    u32::load(b, at) as usize
+    field_at::<u32>(b, at).unwrap() as usize
 }
 
 // The mark of an absent slot.

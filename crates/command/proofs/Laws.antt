@@ -1,19 +1,23 @@
--- Laws of the numbers: a mode, a command and a kind are found again by their number. Assumes nothing.
+-- Laws of the numbers: a mode, a command and a kind are found again by their number; the class of a number outside the lists. Assumes nothing.
 use mathlib.Core.Path.{◌≡◌, refl}
-use mathlib.Core.Bool.{false}
-use Prim.Native.Nat.{ℕ}
-use borrow.Author.Tests.{eqb-true}
-use lib.Dec.{eqb}
+use mathlib.Core.Bool.{Bool, true, false}
+use mathlib.Core.List.{List, [], ◌∷◌}
+use Prim.Native.Nat.{ℕ, ◌<◌, ◌≤◌}
+use native.Mathlib.Omega.{arith}
+use borrow.Author.Tests.{eqb-true, ne_eqb}
+use lib.Dec.{T, eqb, ltb, ltb→lt}
 use Rattle.std.specs.Prelude.{Result, Ok, Err}
 use Rattle.refusal.specs.declared.Refusal.{Refusal}
-use Rattle.base.proofs.Ranges.{by_test}
-use Rattle.command.specs.Command.{mode_number, command_number, kind_number, mode_of, command_of, kinds, class_of}
+use Rattle.base.specs.Choice.{pick}
+use Rattle.base.proofs.Ranges.{by_test, both_left, both_right}
+use Rattle.command.specs.Command.{mode_number, command_number, kind_number, mode_of, command_of, kinds, kind_among, among, class_of}
 use Rattle.command.specs.declared.SaharaMode.{SaharaMode}
 use Rattle.command.specs.declared.SaharaMode.TheVariants as M
 use Rattle.command.specs.declared.SaharaCmdModeCmd.{SaharaCmdModeCmd}
 use Rattle.command.specs.declared.SaharaCmdModeCmd.TheVariants as E
 use Rattle.command.specs.declared.SaharaCmd.{SaharaCmd}
 use Rattle.command.specs.declared.SaharaCmd.TheVariants as K
+use Rattle.command.specs.declared.Class.{Class}
 use Rattle.command.specs.declared.Class.TheVariants as C
 
 -- a mode's number is read back as the mode
@@ -75,3 +79,37 @@ kind_back K.ExecuteData = refl
 kind_back K.MemDebug64 = refl
 kind_back K.MemRead64 = refl
 kind_back K.ReadData64 = refl
+
+-- each of a list is below b
+abbrev pub below : ℕ → List ℕ → Bool
+below b [] = true
+below b (k ∷ ks) = pick (ltb k b) (below b ks) false
+
+-- a number that is not below b is none of them
+pub among_above : (b n : ℕ) (ks : List ℕ) → T (below b ks) → b ≤ n → among n ks ≡ false
+among_above b n [] t h = refl
+among_above b n (k ∷ ks) t h =
+    let l : k < b = ltb→lt k b (both_left (ltb k b) (below b ks) t) in
+    rw (ne_eqb n k (λ q. omega arith), among_above b n ks (both_right (ltb k b) (below b ks) t) h) refl
+
+abbrev pub kinds_below : ℕ → List SaharaCmd → Bool
+kinds_below b [] = true
+kinds_below b (k ∷ ks) = pick (ltb (kind_number k) b) (kinds_below b ks) false
+
+pub kind_above : (b n : ℕ) (ks : List SaharaCmd) (other : Class) → T (kinds_below b ks) → b ≤ n → kind_among n ks other ≡ other
+kind_above b n [] other t h = refl
+kind_above b n (k ∷ ks) other t h =
+    let l : kind_number k < b = ltb→lt (kind_number k) b (both_left (ltb (kind_number k) b) (kinds_below b ks) t) in
+    rw (ne_eqb n (kind_number k) (λ q. omega arith), kind_above b n ks other (both_right (ltb (kind_number k) b) (kinds_below b ks) t) h) refl
+
+abbrev pub is_unimplemented : Class → Bool
+is_unimplemented (C.Kind k) = false
+is_unimplemented C.Xml = false
+is_unimplemented C.Unimplemented = true
+is_unimplemented C.Unknown = false
+
+pub unimplemented_is : (c : Class) → T (is_unimplemented c) → C.Unimplemented ≡ c
+unimplemented_is (C.Kind k) t = absurd t
+unimplemented_is C.Xml t = absurd t
+unimplemented_is C.Unimplemented t = refl
+unimplemented_is C.Unknown t = absurd t

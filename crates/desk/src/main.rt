@@ -1,12 +1,11 @@
 // Reads standard input as deliveries of 4,096 bytes, each used up before the next is read, and prints a line a step: bytes taken, answer, number.
 #![tactic(auto)]
 
-ghost use Rattle.std.specs.Prelude.{◌≤◌, vec_len, IfOk};
+ghost use Rattle.std.specs.Prelude.{◌≤◌, length, IfOk};
 
 use command::SaharaMode;
 use feed::Feed;
 use session::{Answer, Session, Stepped};
-use std::alloc::{AllocError, Global};
 use std::io;
 use std::io::Read;
 use verdict::QdlBackend;
@@ -29,34 +28,49 @@ fn told(rt: &impl Print, taken: usize, a: Answer) -> io::Result<bool> {
     Ok(more)
 }
 
-// What a step writes to.
+// What a step writes to. Arrays, and no `Vec`: a program that asks for no heap is not refused any.
 #[derive(Drop)]
 struct Buffers {
-    table: Vec<u8>,
-    reply: Vec<u8>,
-    out: Vec<u8>,
+    table: [u8; 65536],
+    reply: [u8; 4096],
+    out: [u8; 48],
 }
 
 impl Buffers {
-    fn new(alloc: Global) -> Result<Buffers, AllocError> {
-        Ok(Buffers {
-            table: vec![in alloc; 0; 65536]?,
-            reply: vec![in alloc; 0; 4096]?,
-            out: vec![in alloc; 0; 48]?,
-        })
+    fn new() -> Buffers {
+        Buffers {
+            table: [0; 65536],
+            reply: [0; 4096],
+            out: [0; 48],
+        }
     }
 }
 
+// Reads until the buffer is full or the input ends: how many bytes it put at the front. Each read is lent all the room that is left: where an input keeps
+// messages apart, the rest of one that is longer than the room of a read is lost, and the library's `read_to_end` begins with little.
+fn read_full<R: Read>(from: &mut R, buf: &mut [u8]) -> io::Result<usize>
+    ensures { IfOk result (λ n. n ≤ length buf.new) }
+{
+    let mut done = 0;
+    while done < buf.len() {
+        let n = from.read(&mut buf[done..])?;
+        if n == 0 {
+            break;
+        }
+        done += n;
+    }
+    Ok(done)
+}
+
 // The next delivery, where this one is used up.
-fn refill<R: Read>(input: &mut R, delivery: &mut Vec<u8>, f: Feed) -> io::Result<Feed>
-    requires { (f.from ≤ f.to) × (f.to ≤ vec_len delivery.old) }
-    ensures { IfOk result (λ r. (r.from ≤ r.to) × (r.to ≤ vec_len delivery.new)) }
+fn refill<R: Read>(input: &mut R, delivery: &mut [u8], f: Feed) -> io::Result<Feed>
+    requires { (f.from ≤ f.to) × (f.to ≤ length delivery.old) }
+    ensures { IfOk result (λ r. (r.from ≤ r.to) × (r.to ≤ length delivery.new)) }
 {
     if !f.is_due() {
         return Ok(f);
     }
-    delivery.clear();
-    let n = input.take(4096).read_to_end(delivery)?;
+    let n = read_full(input, delivery)?;
     Ok(Feed::delivered(0, n))
 }
 
@@ -70,14 +84,17 @@ fn step_or_close(s: Session, f: Feed, left: &[u8], buffers: &mut Buffers) -> Ste
     host::step(s, left, none, none, table, reply, out)
 }
 
-fn run<R: Read>(rt: &impl Print, alloc: Global, input: &mut R) -> io::Result<()> {
-    let mut delivery = Vec::new(alloc);
-    let mut buffers = Buffers::new(alloc)?;
+fn run<R: Read>(
+    rt: &impl Print,
+    input: &mut R,
+    delivery: &mut [u8],
+    buffers: &mut Buffers,
+) -> io::Result<()> {
     let mut s = host::open(SaharaMode::WaitingForImage, None, QdlBackend::Serial);
     let mut f = Feed::begin();
     for _ in 0..u64::MAX {
-        let fed = refill(input, &mut delivery, f)?;
-        let r = step_or_close(s, fed, &delivery[fed.from..fed.to], &mut buffers);
+        let fed = refill(input, delivery, f)?;
+        let r = step_or_close(s, fed, &delivery[fed.from..fed.to], buffers);
         if !told(rt, r.taken, r.answer)? {
             return Ok(());
         }
@@ -88,5 +105,5 @@ fn run<R: Read>(rt: &impl Print, alloc: Global, input: &mut R) -> io::Result<()>
 }
 
 fn main(rt: HostRuntime) -> io::Result<()> {
-    run(&rt, rt.alloc(), &mut rt.stdin())
+    run(&rt, &mut rt.stdin(), &mut [0; 4096], &mut Buffers::new())
 }

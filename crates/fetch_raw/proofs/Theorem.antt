@@ -22,9 +22,23 @@ use Rattle.session.specs.Answers.{answer_number, answer_values}
 use Rattle.session.specs.Step.{step_of}
 use Rattle.steps.specs.Steps.{Throughout}
 use Rattle.raw.specs.declared.RawSession.{RawSession}
-use Rattle.raw.specs.Raw.{backend_number, exec_number, width_of, is_opening, counts_of, raw_of, session_of, is_session, opened_raw, raw_stepped}
+use Rattle.raw.specs.Raw.{
+  backend_number,
+  exec_number,
+  width_of,
+  is_opening,
+  counts_of,
+  raw_of,
+  session_of,
+  is_session,
+  opened_raw,
+  told_of,
+  stepped_at,
+  raw_stepped,
+  refused_raw,
+}
 use Rattle.raw.proofs.Laws.{opening_back, session_is}
-use Rattle.raw_step.specs.RawStep.{raw_outcome_of, step_raw}
+use Rattle.raw_step.specs.RawStep.{raw_outcome_of, no_session, step_raw}
 use Rattle.raw_step.proofs.Laws.{step_told}
 use Rattle.fetch.specs.Plain.{Debug, Setting}
 use Rattle.fetch.specs.Device.{definitions, given_of, Lent, lent, delivered, World, start, next}
@@ -34,7 +48,7 @@ use Rattle.fetch.specs.Within.{Within, StepWithin, ReplyWithin}
 use Rattle.fetch.proofs.Theorem.{fetch, means}
 use Rattle.fetch.proofs.Within.{step_within, reply_within}
 use Rattle.fetch.proofs.Simulation.{Alike, demand_carried}
-use Rattle.fetch_raw.specs.Calls.{answer_of, Call, by_value, in_place, called_of, Called, width_in, opened_calls, given_raw, calling}
+use Rattle.fetch_raw.specs.Calls.{answer_of, ReadsBack, Call, by_value, in_place, called_of, Called, width_in, opened_calls, given_raw, calling}
 
 -- ---- what crosses is read back
 
@@ -48,6 +62,10 @@ answer_back A.EmptyRead = refl
 answer_back (A.Close i) = refl
 answer_back (A.Finished how r) = rw (finish_back how) refl
 answer_back (A.Refused why) = rw (refusal_back why) refl
+
+-- what is told of an answer is
+told_back : (s : RawSession) (k : ℕ) (a : Answer) → ReadsBack (stepped_at s (told_of k a))
+told_back s k a = rw (answer_back a) (refl, refl, refl)
 
 -- an opening's numbers name it
 names_opening : (u : Opening) → is_opening (mode_number u.mode) (exec_number u.command) (backend_number u.backend) ≡ true
@@ -69,6 +87,15 @@ Numbers s k = raw_of s ≡ k.numbers
 pub call_is : (c : Call) (r : RawSession) (d set names t y o : List ℕ) → called_of c r d set names t y o ≡ step_raw r d set names t y o
 call_is by_value r d set names t y o = refl
 call_is in_place r d set names t y o = refl
+
+-- of any numbers, a session's or not, by either call: no two answers cross as the same numbers, and no other numbers cross
+pub reads_back : (c : Call) (r : RawSession) (d set names t y o : List ℕ) → ReadsBack (called_of c r d set names t y o).stepped
+unfolding step_raw raw_stepped
+reads_back c r d set names t y o =
+    rw (call_is c r d set names t y o)
+    (by_test (is_session r)
+    (λ e. let x = (step_of (session_of r) d set names t y o).stepped in rw e (told_back (raw_of x.session) x.taken x.answer))
+    (λ e. rw e (told_back r 0 (A.Refused (no_session set names o)))))
 
 told_alike : (n : ℕ) (r : Outcome) → Alike Numbers (given_of r) (given_raw n (raw_outcome_of r))
 unfolding raw_stepped

@@ -1,7 +1,7 @@
 -- The C interface as a host: its states are a session's numbers as they cross, it is opened by `worgesli_open`, and each step is a call of `worgesli_step` or
 -- of `worgesli_step_in_place`, mixed as one likes. What a call gives is what its contract says (worgesli/src), an equation to `step_raw`; an answer is read
--- back from its number and values. Demand 3 of this host is `fetch_raw` of proofs/Theorem.
-use Rattle.std.specs.Prelude.{ℕ, suc, List, [], ◌∷◌, eqb}
+-- back from its number and values, and no other number is read as it (`reads_back` of proofs/Theorem). Demand 3 of this host is `fetch_raw` there.
+use Rattle.std.specs.Prelude.{ℕ, suc, ◌≡◌, ◌×◌, List, [], ◌∷◌, get_or, eqb}
 use Rattle.base.specs.Choice.{pick}
 use Rattle.field.specs.declared.Width.{Width}
 use Rattle.command.specs.Command.{mode_number}
@@ -10,7 +10,9 @@ use Rattle.verdict.specs.Verdict.{finish_of}
 use Rattle.verdict.specs.declared.Opening.{Opening}
 use Rattle.session.specs.declared.Answer.{Answer}
 use Rattle.session.specs.declared.Answer.TheVariants as A
+use Rattle.session.specs.Answers.{answer_number, answer_values}
 use Rattle.raw.specs.declared.RawSession.{RawSession}
+use Rattle.raw.specs.declared.RawStepped.{RawStepped}
 use Rattle.raw.specs.Raw.{backend_number, exec_number, width_of, opened_raw}
 use Rattle.raw_step.specs.RawStep.{RawOutcome, raw_at, step_raw}
 use Rattle.fetch.specs.Device.{Given, Host}
@@ -26,6 +28,13 @@ answer_of n first second =
     (pick (eqb n 5) A.EmptyRead
     (pick (eqb n 6) (A.Close first)
     (pick (eqb n 7) (A.Finished (finish_of first) second) (A.Refused (refusal_of first)))))))))
+
+-- number and values are just those of the answer that they are read back as: a number that is no refusal's, or no end's, is read as another's, and then
+-- this is false
+abbrev pub ReadsBack : RawStepped → Type 0
+ReadsBack r =
+    let a = answer_of r.answer r.first r.second in
+    (r.answer ≡ answer_number a) × (r.first ≡ get_or (answer_values a) 0 0) × (r.second ≡ get_or (answer_values a) 1 0)
 
 -- `worgesli_step`, `worgesli_step_in_place`
 pub data Call : Type 0 where

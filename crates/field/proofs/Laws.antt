@@ -116,6 +116,22 @@ pub le8 : (at : ℕ) (s : List ℕ)
     + 256 * get_or s (at + 7) 0))))))
 le8 at s = rw (le_split 4 4 at s, le4 at s, le4 (at + 4) s, add_assoc at 4 1, add_assoc at 4 2, add_assoc at 4 3) (omega arith)
 
+-- the same of the first bytes of a list
+pub le4_front : (s : List ℕ) → le 4 s ≡ get_or s 0 0 + 256 * (get_or s 1 0 + 256 * (get_or s 2 0 + 256 * get_or s 3 0))
+le4_front s = le4 0 s
+
+pub le8_front : (s : List ℕ)
+    → le 8 s
+    ≡ get_or s 0 0
+    + 256 * (get_or s 1 0
+    + 256 * (get_or s 2 0
+    + 256 * (get_or s 3 0
+    + 256 * (get_or s 4 0
+    + 256 * (get_or s 5 0
+    + 256 * (get_or s 6 0
+    + 256 * get_or s 7 0))))))
+le8_front s = le8 0 s
+
 pow_pos256 : (w : ℕ) → zero < 256 ^ w
 pow_pos256 w = one-le-pow w 256 (lit< tt)
 
@@ -168,12 +184,15 @@ unfolding le_bytes
 bytes_from zero i v = refl
 bytes_from (suc w) i v = rw (byte_is i v, bytes_from w (suc i) v, pow-suc 256 i, div-div-eq-div-mul v (256 ^ i) 256) refl
 
--- so a part of d replaced by all of them is the number stored
-pub number_stored : (at k v : ℕ) (d : List ℕ) → at + k ≤ length d → sets d at (le_bytes k v) ≡ put_mid at (at + k - at) d (bytes_low_first 0 k v)
+-- all of them
+pub bytes_are : (k v : ℕ) → bytes_low_first 0 k v ≡ le_bytes k v
+bytes_are k v = bytes_from k 0 v ∙ ap (le_bytes k) (omega (arith, pow-zero 256))
+
+-- a part of d replaced by the bytes of a number is the number stored
+pub number_stored : (at k v : ℕ) (d : List ℕ) → at + k ≤ length d → sets d at (le_bytes k v) ≡ put_mid at (at + k - at) d (le_bytes k v)
 number_stored at k v d h =
     let m : at + k - at ≡ k = omega arith in
-    let e : bytes_low_first 0 k v ≡ le_bytes k v = bytes_from k 0 v ∙ ap (le_bytes k) (omega (arith, pow-zero 256)) in
-    rw (m, e, sets-eq (le_bytes k v) d at (rw length_le_bytes h), length_le_bytes, drop-drop k at d) (append_assoc (take at d) (le_bytes k v) (drop (at + k) d))
+    rw (m, sets-eq (le_bytes k v) d at (rw length_le_bytes h), length_le_bytes, drop-drop k at d) (append_assoc (take at d) (le_bytes k v) (drop (at + k) d))
 
 -- from a place on, a place past the end being the end
 pub from_place : (at m : ℕ) (s : List ℕ) → m ≡ min at (length s) → take (length s - m) (drop m s) ≡ drop at s

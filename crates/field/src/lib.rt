@@ -2,7 +2,7 @@
 // memory debug's numbers.
 #![tactic(auto)]
 
-ghost use Rattle.std.specs.Prelude.{◌≡◌, ℕ, ◌+◌, ◌≤◌, leb, length, drop};
+ghost use Rattle.std.specs.Prelude.{◌≡◌, ℕ, ◌+◌, ◌-◌, ◌≤◌, ◌++◌, leb, length, drop, replicate};
 ghost use Rattle.std.proofs.Common.{rules};
 ghost use Rattle.std.proofs.lemmas.List.Edits.{sets};
 ghost use Rattle.field.specs.Field.{le, le_bytes, field_at, written, put_at, field_size};
@@ -18,15 +18,13 @@ pub trait Number: Copy {
 
     ghost value: { Self → ℕ };
 
-    // The number whose bytes lie at a place, the least first.
-    fn load(s: &[u8], at: usize) -> Self
-        requires { at + SIZE ≤ length s.now }
-        ensures { result ≡ of (le SIZE (drop at s.now)) };
+    // The number that the first SIZE bytes write, the least first.
+    fn of_bytes(bytes: [u8; 8]) -> Self
+        ensures { result ≡ of (le SIZE bytes) };
 
-    // Its bytes, stored at a place.
-    fn store(self, d: &mut [u8], at: usize)
-        requires { at + SIZE ≤ length d.old }
-        ensures { d.new ≡ sets d.old at (le_bytes SIZE (value self)) };
+    // Its bytes, the least first; zeros behind them.
+    fn bytes(self) -> [u8; 8]
+        ensures { result ≡ le_bytes SIZE (value self) ++ replicate (8 - SIZE) 0 };
 
     ghost most: { SIZE ≤ 8 };
 }
@@ -42,15 +40,15 @@ impl Number for u32 {
 
     ghost most = { Prim.search rules };
 
-    #[tactic(auto, using(crate::proofs::Laws::le4))]
-    fn load(s: &[u8], at: usize) -> u32 {
-        u32::from_le_bytes([s[at], s[at + 1], s[at + 2], s[at + 3]])
+    #[tactic(auto, using(crate::proofs::Laws::le4_front))]
+    fn of_bytes(bytes: [u8; 8]) -> u32 {
+        u32::from_le_bytes([bytes[0], bytes[1], bytes[2], bytes[3]])
     }
 
-    #[tactic(auto, using(crate::proofs::Laws::number_stored))]
-    fn store(self, d: &mut [u8], at: usize) {
-        let bytes = self.to_le_bytes();
-        d[at..at + 4].copy_from_slice(&bytes);
+    #[tactic(auto, using(crate::proofs::Laws::bytes_are))]
+    fn bytes(self) -> [u8; 8] {
+        let b = self.to_le_bytes();
+        [b[0], b[1], b[2], b[3], 0, 0, 0, 0]
     }
 }
 
@@ -65,24 +63,14 @@ impl Number for u64 {
 
     ghost most = { Prim.search rules };
 
-    #[tactic(auto, using(crate::proofs::Laws::le8))]
-    fn load(s: &[u8], at: usize) -> u64 {
-        u64::from_le_bytes([
-            s[at],
-            s[at + 1],
-            s[at + 2],
-            s[at + 3],
-            s[at + 4],
-            s[at + 5],
-            s[at + 6],
-            s[at + 7],
-        ])
+    #[tactic(auto, using(crate::proofs::Laws::le8_front))]
+    fn of_bytes(bytes: [u8; 8]) -> u64 {
+        u64::from_le_bytes(bytes)
     }
 
-    #[tactic(auto, using(crate::proofs::Laws::number_stored))]
-    fn store(self, d: &mut [u8], at: usize) {
-        let bytes = self.to_le_bytes();
-        d[at..at + 8].copy_from_slice(&bytes);
+    #[tactic(auto, using(crate::proofs::Laws::bytes_are))]
+    fn bytes(self) -> [u8; 8] {
+        self.to_le_bytes()
     }
 }
 
@@ -133,13 +121,33 @@ fn lies_within(len: usize, at: usize, size: usize) -> bool
     size <= len && at <= len - size
 }
 
+// The field at a place, which lies within the bytes.
+fn load<T: Number>(s: &[u8], at: usize) -> T
+    requires { at + T.SIZE ≤ length s.now }
+    ensures { result ≡ T.of (le T.SIZE (drop at s.now)) }
+{
+    let n = T::SIZE;
+    let mut bytes = [0; 8];
+    bytes[..n].copy_from_slice(&s[at..at + n]);
+    T::of_bytes(bytes)
+}
+
+// A number's bytes, put at a place where they lie within.
+fn store<T: Number>(d: &mut [u8], at: usize, v: T)
+    requires { at + T.SIZE ≤ length d.old }
+    ensures { d.new ≡ sets d.old at (le_bytes T.SIZE (T.value v)) }
+{
+    let n = T::SIZE;
+    d[at..at + n].copy_from_slice(&v.bytes()[..n]);
+}
+
 // The field at a place.
 #[tactic(auto, unfolding(crate::specs::Field::field_at))]
 pub fn field_at<T: Number>(s: &[u8], at: usize) -> Option<T>
     ensures { result ≡ field_at T.SIZE T.of s.now at }
 {
     if lies_within(s.len(), at, T::SIZE) {
-        Some(T::load(s, at))
+        Some(load(s, at))
     } else {
         None
     }
@@ -156,7 +164,7 @@ pub fn padded<T: Number>(s: &[u8], at: usize) -> T
     let there = &s[at.min(s.len())..];
     let mut bytes = [0u8; 8];
     bytes[..there.len()].copy_from_slice(there);
-    T::load(&bytes, 0)
+    T::of_bytes(bytes)
 }
 
 // Writes a field at a place.
@@ -167,7 +175,7 @@ pub fn put<T: Number>(d: &mut [u8], at: usize, v: T) -> Result<(), Short>
     if !lies_within(d.len(), at, T::SIZE) {
         return Err(Short);
     }
-    v.store(d, at);
+    store(d, at, v);
     Ok(())
 }
 

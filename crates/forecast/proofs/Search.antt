@@ -27,14 +27,14 @@ module _ (c : ℕ) (names : List ℕ) (f : ℕ) (t : List ℕ) where
 
   -- one more, that is selected
   one_taken : (k i : ℕ) (s : Forecast) → is_selected names (entry_in f t i) ≡ true
-      → add_all c names (more_of c s (entry_in f t i).len) (entries_from f t k (suc i)) ≡ add_all c names (Ok s) (entries_from f t (suc k) i)
+      → add_all c names (more_of c (Ok s) (entry_in f t i).len) (entries_from f t k (suc i)) ≡ add_all c names (Ok s) (entries_from f t (suc k) i)
   unfolding entries_from
-  one_taken k i s h = sym (add_yes c names (entry_in f t i) (entries_from f t k (suc i)) s h)
+  one_taken k i s h = sym (add_yes c names (entry_in f t i) (entries_from f t k (suc i)) (Ok s) h)
 
   one_passed : (k i : ℕ) (s : Forecast) → is_selected names (entry_in f t i) ≡ false
       → add_all c names (Ok s) (entries_from f t (suc k) i) ≡ add_all c names (Ok s) (entries_from f t k (suc i))
   unfolding entries_from
-  one_passed k i s h = add_no c names (entry_in f t i) (entries_from f t k (suc i)) s h
+  one_passed k i s h = add_no c names (entry_in f t i) (entries_from f t k (suc i)) (Ok s) h
 
   -- up to the next selected one nothing is added: of k entries from i on
   passed : (k i : ℕ) (s : Forecast) → i + k ≤ entries_in f (length t)
@@ -86,21 +86,21 @@ module _ (c : ℕ) (names : List ℕ) (f : ℕ) (t : List ℕ) where
 
   -- a selected entry is taken, and what is left behind it
   taken : (n i : ℕ) (s : Forecast) (whole : Result Forecast Refusal) → n ≤ entries_in f (length t) → i < n → Searched n i (Ok s) whole
-      → add_all c names (more_of c s (entry_in f t i).len) (entries_from f t (n - (i + 1)) (i + 1)) ≡ whole
+      → add_all c names (more_of c (Ok s) (entry_in f t i).len) (entries_from f t (n - (i + 1)) (i + 1)) ≡ whole
   taken n i s whole h l g =
       let k : n - i ≡ suc (n - (i + 1)) = omega arith in
       let e : is_selected names (entry_in f t i) ≡ true = sym (selected_alike i (omega arith)) ∙ g.here l in
       rw (← g.same, k, add-one i) (one_taken (n - suc i) i s e)
 
   pub goes_on : (n i j : ℕ) (s z : Forecast) (whole : Result Forecast Refusal) → n ≤ entries_in f (length t) → i < n → Searched n i (Ok s) whole
-      → more_of c s (entry_in f t i).len ≡ Ok z → j ≡ next_of f names t (n - (i + 1)) (i + 1) → Searched n j (Ok z) whole
+      → more_of c (Ok s) (entry_in f t i).len ≡ Ok z → j ≡ next_of f names t (n - (i + 1)) (i + 1) → Searched n j (Ok z) whole
   goes_on n i j s z whole h l g e k =
       let w : add_all c names (Ok z) (entries_from f t (n - (i + 1)) (i + 1)) ≡ whole = rw (← e) (taken n i s whole h l g) in
       subst (λ (x : Result Forecast Refusal). Searched n j (Ok z) x) w (sought n (i + 1) j z h (omega arith) k)
 
   -- an entry that is refused refuses them all
   pub refused : (n i : ℕ) (s : Forecast) (whole : Result Forecast Refusal) (why : Refusal) → n ≤ entries_in f (length t) → i < n
-      → Searched n i (Ok s) whole → more_of c s (entry_in f t i).len ≡ Err why → whole ≡ Err why
+      → Searched n i (Ok s) whole → more_of c (Ok s) (entry_in f t i).len ≡ Err why → whole ≡ Err why
   refused n i s whole why h l g e = sym (taken n i s whole h l g) ∙ rw e (stays c names (entries_from f t (n - (i + 1)) (i + 1)) why)
 
 -- ---- a list, one entry after the other

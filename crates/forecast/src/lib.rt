@@ -20,7 +20,7 @@ pub fn forecast(entries: &[RamdumpTable64], names: &[u8]) -> Result<Forecast, Re
 {
     let mut sums = start(names)?;
     for e in entries {
-        sums = add(sums, *e, names)?;
+        sums = add(Ok(sums), *e, names)?;
     }
     Ok(sums)
 }
@@ -36,7 +36,7 @@ pub fn forecast_table(table: &[u8], width: Width, names: &[u8]) -> Result<Foreca
     // no `for` over all entries: tried, it takes the test out of line in a step's search, where an entry passed over then costs 100 instructions, not 30
     while i < n {
         let e = entry_at(table, width, i).unwrap();
-        sums = more(sums, e.len)?;
+        sums = more(Ok(sums), e.len)?;
         i = next_selected(table, width, n, names, i + 1);
     }
     Ok(sums)

@@ -59,7 +59,7 @@ module _ (c : ℕ) (names : List ℕ) where
   pub stays : (es : List RamdumpTable64) (why : Refusal) → add_all c names (Err why) es ≡ Err why
   unfolding add_all
   stays [] why = refl
-  stays (e ∷ es) why = stays es why
+  stays (e ∷ es) why = by_test (is_selected names e) (λ i. rw i (stays es why)) (λ i. rw i (stays es why))
 
   -- what the entries es behind sums come to
   abbrev Total : List RamdumpTable64 → ℕ → ℕ → ℕ → Type 0
@@ -95,13 +95,13 @@ module _ (c : ℕ) (names : List ℕ) where
     unfolding selected_of
     selected_no i = rw i refl
 
-    pub add_yes : (f : Forecast) → is_selected names e ≡ true → add_all c names (Ok f) (e ∷ es) ≡ add_all c names (more_of c f e.len) es
+    pub add_yes : (s : Result Forecast Refusal) → is_selected names e ≡ true → add_all c names s (e ∷ es) ≡ add_all c names (more_of c s e.len) es
     unfolding add_all
-    add_yes f i = rw i refl
+    add_yes s i = rw i refl
 
-    pub add_no : (f : Forecast) → is_selected names e ≡ false → add_all c names (Ok f) (e ∷ es) ≡ add_all c names (Ok f) es
+    pub add_no : (s : Result Forecast Refusal) → is_selected names e ≡ false → add_all c names s (e ∷ es) ≡ add_all c names s es
     unfolding add_all
-    add_no f i = rw i refl
+    add_no s i = rw i refl
 
   add_none : (s : Result Forecast Refusal) → add_all c names s [] ≡ s
   unfolding add_all
@@ -117,9 +117,9 @@ module _ (c : ℕ) (names : List ℕ) where
   total (e ∷ es) n b r h x y =
       by_test (is_selected names e)
       (λ i.
-      rw (add_yes e es (needs n b r) i, selected_yes e es i)
+      rw (add_yes e es (Ok (needs n b r)) i, selected_yes e es i)
       (one_more es n b r e.len (chunks_in c e.len) (omega arith) (λ j l. total es (n + 1) (b + e.len) (r + chunks_in c e.len) (omega arith) j l)))
-      (λ i. rw (add_no e es (needs n b r) i, selected_no e es i) (total es n b r (omega arith) x y))
+      (λ i. rw (add_no e es (Ok (needs n b r)) i, selected_no e es i) (total es n b r (omega arith) x y))
 
   -- the sums of a list that is lent come to its forecast
   pub sums_are : (es : List RamdumpTable64) → length es < 2 ^ 64 → add_all c names (start_of names) es ≡ forecast_of c es names

@@ -13,21 +13,18 @@ use Rattle.forecast_sums.specs.Forecast.{is_selected, passes, needs}
 abbrev pub start_of : List ℕ → Result Forecast Refusal
 start_of names = pick (well_formed false names) (Ok (needs 0 0 1)) (Err Refusal.ForecastNames)
 
--- with a selected region more, of this length; 27. The regions modulo 2^64, which no list that is lent comes to
-abbrev pub more_of : ℕ → Forecast → ℕ → Result Forecast Refusal
-more_of c f len =
+-- with a selected region more, of this length; 27. What is refused stays so. The regions modulo 2^64, which no list that is lent comes to
+abbrev pub more_of : ℕ → Result Forecast Refusal → ℕ → Result Forecast Refusal
+more_of c (Ok f) len =
     pick (passes (f.bytes + len)) (Err Refusal.ForecastSum)
     (pick (passes (f.reads + chunks_in c len)) (Err Refusal.ForecastSum)
     (Ok (needs ((f.regions + 1) % 2 ^ 64) (f.bytes + len) (f.reads + chunks_in c len))))
+more_of c (Err why) len = Err why
 
--- with any entry more; what is refused stays so
-abbrev pub add_of : ℕ → List ℕ → Forecast → RamdumpTable64 → Result Forecast Refusal
-add_of c names f e = pick (is_selected names e) (more_of c f e.len) (Ok f)
-
-abbrev pub added : ℕ → List ℕ → Result Forecast Refusal → RamdumpTable64 → Result Forecast Refusal
-added c names (Ok f) e = add_of c names f e
-added c names (Err why) e = Err why
+-- with any entry more
+abbrev pub add_of : ℕ → List ℕ → Result Forecast Refusal → RamdumpTable64 → Result Forecast Refusal
+add_of c names sums e = pick (is_selected names e) (more_of c sums e.len) sums
 
 unfoldable pub add_all : ℕ → List ℕ → Result Forecast Refusal → List RamdumpTable64 → Result Forecast Refusal
-add_all c names r [] = r
-add_all c names r (e ∷ es) = add_all c names (added c names r e) es
+add_all c names sums [] = sums
+add_all c names sums (e ∷ es) = add_all c names (add_of c names sums e) es

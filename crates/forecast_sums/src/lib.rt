@@ -42,10 +42,11 @@ pub fn start(names: &[u8]) -> Result<Forecast, Refusal>
     })
 }
 
-// With a selected region more. No sum is made that passes 2^64 - 1; the regions are counted modulo 2^64, and no list has so many.
-pub fn more(f: Forecast, len: u64) -> Result<Forecast, Refusal>
-    ensures { result ≡ more_of forecast_chunk f len }
+// With a selected region more; what is refused stays so. No sum is made that passes 2^64 - 1; the regions are counted modulo 2^64, and no list has so many.
+pub fn more(sums: Result<Forecast, Refusal>, len: u64) -> Result<Forecast, Refusal>
+    ensures { result ≡ more_of forecast_chunk sums len }
 {
+    let f = sums?;
     let bytes = f.bytes.checked_add(len).ok_or(Refusal::ForecastSum)?;
     let reads = f
         .reads
@@ -60,11 +61,15 @@ pub fn more(f: Forecast, len: u64) -> Result<Forecast, Refusal>
 
 // With an entry more, selected or not.
 #[tactic(auto, unfolding(crate::specs::Forecast::is_selected))]
-pub fn add(f: Forecast, e: RamdumpTable64, names: &[u8]) -> Result<Forecast, Refusal>
-    ensures { result ≡ add_of forecast_chunk names.now f e }
+pub fn add(
+    sums: Result<Forecast, Refusal>,
+    e: RamdumpTable64,
+    names: &[u8],
+) -> Result<Forecast, Refusal>
+    ensures { result ≡ add_of forecast_chunk names.now sums e }
 {
     if !selects(names, e) {
-        return Ok(f);
+        return sums;
     }
-    more(f, e.len)
+    more(sums, e.len)
 }

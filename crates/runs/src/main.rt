@@ -5,15 +5,14 @@
 // ten numbers of 8 bytes (phase, width, memory reads; count, at, base, len, done, outstanding, due, as they cross to C) and the window.
 #![tactic(auto)]
 
-ghost use Rattle.std.specs.Prelude.{◌^◌, ◌<◌, ◌≤◌};
+ghost use Rattle.std.specs.Prelude.{◌^◌, ◌<◌, ◌≤◌, length, IfOk};
 
 use feed::Feed;
 use field::padded;
 use raw::RawSession;
 use session::{Answer, Phase, Session, Stepped};
-use std::alloc::{AllocError, Global};
+use std::io;
 use std::io::{Read, Write};
-use std::{fmt, io};
 use verdict::Finish;
 
 // The parts of a conversation, which lie one behind the other.
@@ -26,12 +25,31 @@ struct Parts<'a> {
     feed: &'a [u8],
 }
 
-// What a step writes to.
+// What steps write to, as much as a case may ask for. They are made once: a case that brings no bytes for them leaves them as they are. Arrays, and no
+// `Vec`: a program that asks for no heap is not refused any.
 #[derive(Drop)]
 struct Buffers {
-    table: Vec<u8>,
-    reply: Vec<u8>,
-    out: Vec<u8>,
+    table: [u8; 65536],
+    reply: [u8; 8192],
+    out: [u8; 64],
+}
+
+impl Buffers {
+    fn new() -> Buffers {
+        Buffers {
+            table: [0; 65536],
+            reply: [0; 8192],
+            out: [0; 64],
+        }
+    }
+}
+
+// How much of each a case lends.
+#[derive(Clone, Copy)]
+struct Sizes {
+    table: usize,
+    reply: usize,
+    out: usize,
 }
 
 fn count(words: &[u8], at: usize) -> usize
@@ -70,22 +88,26 @@ fn parts_of<'a>(words: &[u8], bytes: &'a [u8]) -> Parts<'a> {
     }
 }
 
-// A buffer of so many bytes, at most `most`: what is lent, and zeros behind it.
-fn buffer(alloc: Global, size: usize, most: usize, lent: &[u8]) -> Result<Vec<u8>, AllocError> {
-    let n = size.min(most);
-    let (front, _) = cut(lent, n);
-    let mut buffer = Vec::from_slice(alloc, front)?;
-    buffer.resize(n, 0)?;
-    Ok(buffer)
+// The sizes that the words ask for.
+fn sizes_of(words: &[u8]) -> Sizes {
+    Sizes {
+        table: count(words, 20),
+        reply: count(words, 24),
+        out: count(words, 16),
+    }
 }
 
-// The buffers of the sizes that the words ask for.
-fn buffers_of(alloc: Global, words: &[u8], lent: &[u8]) -> Result<Buffers, AllocError> {
-    Ok(Buffers {
-        table: buffer(alloc, count(words, 20), 65536, lent)?,
-        reply: buffer(alloc, count(words, 24), 8192, lent)?,
-        out: buffer(alloc, count(words, 16), 64, b"")?,
-    })
+// The first bytes of a buffer, at most so many.
+fn front(buffer: &mut [u8], most: usize) -> &mut [u8] {
+    let n = most.min(buffer.len());
+    &mut buffer[..n]
+}
+
+// What is lent, and zeros behind it.
+fn fill(buffer: &mut [u8], lent: &[u8]) {
+    let n = lent.len().min(buffer.len());
+    buffer[..n].copy_from_slice(&lent[..n]);
+    buffer[n..].fill(0);
 }
 
 // The session that the words open; every backend but 0 is USB.
@@ -128,41 +150,32 @@ fn session_of(opened: Session, s: &[u8]) -> Session {
     })
 }
 
-// Bytes in hexadecimal behind a space; nothing for none.
-#[derive(Clone, Copy)]
-struct Detail<'a>(&'a [u8]);
+const DIGITS: &[u8; 16] = b"0123456789abcdef";
 
-impl fmt::Display for Detail<'_> {
-    fn fmt<W: fmt::Write>(&self, f: &mut fmt::Formatter<W>) -> fmt::Result {
-        if !self.0.is_empty() {
-            f.write_str(" ")?;
-        }
-        for b in self.0 {
-            write!(f, "{b:02x}")?;
-        }
-        Ok(())
-    }
-}
-
-// The first bytes, at most so many.
-fn first(s: &[u8], most: usize) -> Detail<'_> {
+// The first bytes, at most so many, in hexadecimal behind a space, and the line's end; no space for none. A byte's digits are written together, and not by
+// `{:02x}`, which writes a 0 by itself: each piece is a call of the system.
+fn first<W: Write>(to: &mut W, s: &[u8], most: usize) -> io::Result<()> {
     let (front, _) = cut(s, most);
-    Detail(front)
-}
-
-// The first bytes from a place on; none where the place is behind the end.
-fn first_from(s: &[u8], start: usize, most: usize) -> Detail<'_> {
-    first(s.get(start..).unwrap_or(b""), most)
+    if !front.is_empty() {
+        to.write_all(b" ")?;
+    }
+    for b in front {
+        to.write_all(&[DIGITS[(*b / 16) as usize], DIGITS[(*b % 16) as usize]])?;
+    }
+    to.write_all(b"\n")
 }
 
 // The line of a step.
 fn told<W: Write>(to: &mut W, taken: usize, a: Answer, set: &[u8], out: &[u8]) -> io::Result<()> {
     match a {
         Answer::Go => writeln!(to, "{taken} go 0"),
-        Answer::Send(k) => writeln!(to, "{taken} send {k}{}", first(out, k)),
+        Answer::Send(k) => {
+            write!(to, "{taken} send {k}")?;
+            first(to, out, k)
+        }
         Answer::Image(start, k) => {
-            let bytes = first_from(set, start, k);
-            writeln!(to, "{taken} image {k} {start}{bytes}")
+            write!(to, "{taken} image {k} {start}")?;
+            first(to, set.get(start..).unwrap_or(b""), k)
         }
         Answer::Open(i) => writeln!(to, "{taken} open {i}"),
         Answer::Bytes(k) => writeln!(to, "{taken} bytes {k}"),
@@ -182,11 +195,10 @@ fn goes_on(a: Answer) -> bool {
 fn replied<W: Write>(to: &mut W, a: Answer, p: Phase, reply: &[u8]) -> io::Result<()> {
     match (a, p) {
         (Answer::Finished(Finish::Reply, _), Phase::Ended(0)) => writeln!(to, "reply -"),
-        (Answer::Finished(Finish::Reply, _), Phase::Ended(k)) => writeln!(
-            to,
-            "reply{}",
-            first(reply, k)
-        ),
+        (Answer::Finished(Finish::Reply, _), Phase::Ended(k)) => {
+            write!(to, "reply")?;
+            first(to, reply, k)
+        }
         _ => Ok(()),
     }
 }
@@ -224,12 +236,20 @@ fn step_or_close(
     left: &[u8],
     parts: Parts<'_>,
     buffers: &mut Buffers,
+    sizes: Sizes,
 ) -> Stepped {
     if f.closes(s) {
         return host::closed(s);
     }
-    let Buffers { table, reply, out } = buffers;
-    host::step(s, left, parts.set, parts.names, table, reply, out)
+    host::step(
+        s,
+        left,
+        parts.set,
+        parts.names,
+        front(&mut buffers.table, sizes.table),
+        front(&mut buffers.reply, sizes.reply),
+        front(&mut buffers.out, sizes.out),
+    )
 }
 
 // One conversation: deliveries of at most `size` of the device's bytes. The session at its end.
@@ -239,12 +259,14 @@ fn run<W: Write>(
     size: usize,
     parts: Parts<'_>,
     buffers: &mut Buffers,
+    sizes: Sizes,
 ) -> io::Result<Session> {
     let mut s = first;
     let mut f = Feed::begin();
     for _ in 0..1000000000 {
         let fed = refill(f, size, parts.feed.len());
-        let r = step_or_close(s, fed, &parts.feed[fed.from..fed.to], parts, buffers);
+        let left = &parts.feed[fed.from..fed.to];
+        let r = step_or_close(s, fed, left, parts, buffers, sizes);
         s = r.session;
         told(to, r.taken, r.answer, parts.set, &buffers.out)?;
         replied(to, r.answer, s.phase, &buffers.reply)?;
@@ -257,50 +279,74 @@ fn run<W: Write>(
 }
 
 // One conversation. The session is told at its end where the case has one.
-fn replay<W: Write>(to: &mut W, alloc: Global, words: &[u8], parts: Parts<'_>) -> io::Result<()> {
-    let mut buffers = buffers_of(alloc, words, parts.lent)?;
-    let first = session_of(opened_by(words), parts.session);
-    let last = run(to, first, count(words, 12), parts, &mut buffers)?;
+fn replay<W: Write>(
+    to: &mut W,
+    words: &[u8],
+    parts: Parts<'_>,
+    buffers: &mut Buffers,
+) -> io::Result<()> {
+    let opened = opened_by(words);
+    let size = count(words, 12);
+    let sizes = sizes_of(words);
     if parts.session.is_empty() {
+        run(to, opened, size, parts, buffers, sizes)?;
         return Ok(());
     }
+    fill(front(&mut buffers.table, sizes.table), parts.lent);
+    fill(front(&mut buffers.reply, sizes.reply), parts.lent);
+    let first = session_of(opened, parts.session);
+    let last = run(to, first, size, parts, buffers, sizes)?;
     told_session(to, last)
 }
 
-// The next bytes, so many or as many as there are.
-fn read<R: Read>(from: &mut R, alloc: Global, most: usize) -> io::Result<Vec<u8>> {
-    let mut bytes = Vec::new(alloc);
-    from.take(most as u64).read_to_end(&mut bytes)?;
-    Ok(bytes)
+// Reads until the buffer is full or the input ends: how many bytes it put at the front. Each read is lent all the room that is left: where an input keeps
+// messages apart, the rest of one that is longer than the room of a read is lost, and the library's `read_to_end` begins with little.
+fn read_full<R: Read>(from: &mut R, buf: &mut [u8]) -> io::Result<usize>
+    ensures { IfOk result (λ n. n ≤ length buf.new) }
+{
+    let mut done = 0;
+    while done < buf.len() {
+        let n = from.read(&mut buf[done..])?;
+        if n == 0 {
+            break;
+        }
+        done += n;
+    }
+    Ok(done)
 }
 
 // The next case: its words are read, then its parts; an empty line between two cases. False where there is none.
 fn next<R: Read, W: Write>(
     from: &mut R,
     to: &mut W,
-    alloc: Global,
     cases: u64,
+    input: &mut [u8],
+    buffers: &mut Buffers,
 ) -> io::Result<bool> {
-    let words = read(from, alloc, 48)?;
-    if words.len() < 48 {
+    let mut words = [0; 48];
+    if read_full(from, &mut words)? < words.len() {
         return Ok(false);
     }
     if 0 < cases {
         writeln!(to)?;
     }
-    let len = parts_len(&words);
-    let bytes = read(from, alloc, len)?;
-    if bytes.len() < len {
+    let bytes = front(input, parts_len(&words));
+    if read_full(from, bytes)? < bytes.len() {
         return Ok(false);
     }
-    replay(to, alloc, &words, parts_of(&words, &bytes))?;
+    replay(to, &words, parts_of(&words, bytes), buffers)?;
     to.flush()?;
     Ok(true)
 }
 
-fn all<R: Read, W: Write>(from: &mut R, to: &mut W, alloc: Global) -> io::Result<()> {
+fn all<R: Read, W: Write>(
+    from: &mut R,
+    to: &mut W,
+    input: &mut [u8],
+    buffers: &mut Buffers,
+) -> io::Result<()> {
     for cases in 0..1000000000 {
-        if !next(from, to, alloc, cases)? {
+        if !next(from, to, cases, input, buffers)? {
             break;
         }
     }
@@ -308,5 +354,10 @@ fn all<R: Read, W: Write>(from: &mut R, to: &mut W, alloc: Global) -> io::Result
 }
 
 fn main(rt: HostRuntime) -> io::Result<()> {
-    all(&mut rt.stdin(), &mut rt.stdout(), rt.alloc())
+    all(
+        &mut rt.stdin(),
+        &mut rt.stdout(),
+        &mut [0; 131072],
+        &mut Buffers::new(),
+    )
 }

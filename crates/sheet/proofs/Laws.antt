@@ -1,20 +1,40 @@
--- Laws of the sheet: the lengths of its parts, and what is stored where: digits from the last one on, the columns of a name, a line piece by piece.
--- Assumes nothing.
+-- Laws of the sheet: the lengths of its parts, and what is stored where: digits from the last one on, the columns of a name, a line piece by piece, the
+-- two outcomes. Assumes nothing.
 use mathlib.Core.Path.{◌≡◌, refl, sym, ap, ◌∙◌}
 use mathlib.Core.List.{List, [], ◌∷◌, ◌++◌, map}
 use Prim.Native.Nat.{ℕ, zero, suc, ◌+◌, ◌-◌, ◌*◌, ◌/◌, ◌%◌, ◌<◌, ◌≤◌}
 use native.Mathlib.Nat.{zero-add}
 use native.Mathlib.Omega.{arith}
-use borrow.Author.Tests.{lt-ltb}
-use lib.ListN.{length, get_or, take, set, replicate, length-append, length-map, length-replicate, get_or-replicate, get_or-append}
+use borrow.Author.Tests.{lt-ltb, le-ltb}
+use lib.ListN.{length, get_or, take, drop, set, replicate, length-append, length-map, length-replicate, get_or-replicate, get_or-append}
 use lib.Seq.{sets, take_all, get_or-take, get_or-append-add, length-sets}
-use Rattle.base.proofs.Lists.{sets_append, sets_more, set_sets}
+use Rattle.std.specs.Prelude.{Ok, Err}
+use Rattle.base.specs.Told.{Tells}
+use Rattle.base.proofs.Lists.{sets_append, sets_more, set_sets, sets_front}
+use Rattle.base.proofs.Telling.{tells}
+use Rattle.refusal.specs.declared.Refusal.TheVariants as Refusal
 use Rattle.entry.specs.Entry.{entry_size, entries_in, entry_in}
 use Rattle.entry.specs.declared.RamdumpTable64.{RamdumpTable64}
 use Rattle.entry.proofs.Laws.{there_below, length_filename}
 use Rattle.filename.specs.Filename.{before}
 use Rattle.filename.proofs.Laws.{length_before, take_before}
-use Rattle.sheet.specs.Sheet.{blank, line_feed, printed, columns, digit, hex, mark, text_of, line_of, lines_of, sheet_bytes, sheet_size}
+use Rattle.sheet.specs.Sheet.{
+  blank,
+  line_feed,
+  printed,
+  columns,
+  digit,
+  hex,
+  mark,
+  text_of,
+  line_of,
+  lines_of,
+  sheet_bytes,
+  sheet_size,
+  sheet_outcome,
+  sheet_of,
+  sheet_outcome_told,
+}
 
 -- ---- lengths
 
@@ -132,6 +152,19 @@ module _ (f : ℕ) (t : List ℕ) where
   unfolding lines_of
   lines_more d n h =
       sets_append (lines_of f t n) (line_of (entry_in f t n)) d 0 ∙ rw (zero-add, length_lines n (omega arith)) refl
+
+  -- a page that is too short
+  pub refuses : (p : List ℕ) → length p < sheet_size f t → Tells sheet_outcome_told (sheet_outcome (Err Refusal.SheetPage) p) (sheet_of f t p)
+  unfolding sheet_of
+  refuses p h = tells sheet_outcome_told (simp (lt-ltb (length p) (sheet_size f t) h))
+
+  -- and one on which the lines are stored from its beginning on
+  pub writes : (p q : List ℕ) → sheet_size f t ≤ length p → q ≡ sets p 0 (sheet_bytes f t)
+      → Tells sheet_outcome_told (sheet_outcome (Ok (sheet_size f t)) q) (sheet_of f t p)
+  unfolding sheet_of
+  writes p q h e =
+      let r : q ≡ sheet_bytes f t ++ drop (sheet_size f t) p = e ∙ sets_front (sheet_bytes f t) p (sheet_size f t) length_sheet h in
+      tells sheet_outcome_told (rw (le-ltb (length p) (sheet_size f t) h) (ap (sheet_outcome (Ok (sheet_size f t))) r))
 
 -- the stores of a line, and that none changes the page's length
 pub ruleset line_steps = (line_stored, length-sets)

@@ -16,10 +16,8 @@ pub const MOST: usize = 0xFFFFFFFE;
 // The start of an absent slot.
 const ABSENT: u32 = 0xFFFFFFFF;
 
-// The bytes of slot i: how many. Not in line, nor the start below: of a set whose slots are all absent the compiler would make of the loops that write these a
-// call of `memset`, and the archive needs `memcpy` alone (README).
+// The bytes of slot i: how many.
 #[tactic(auto, using(bundle::proofs::Laws::size_there))]
-#[inline(never)]
 pub fn size_at(set: &[u8], i: usize) -> usize
     ensures { result ≡ size_in (content_of set.now i) }
 {
@@ -29,7 +27,8 @@ pub fn size_at(set: &[u8], i: usize) -> usize
     }
 }
 
-// The start of slot i behind so many bytes of data.
+// The start of slot i behind so many bytes of data. Not in line: of a set whose slots are all absent the compiler would make of the loop that writes them a
+// call of `memset`, and the archive needs `memcpy` alone (README).
 #[inline(never)]
 pub fn start_at(set: &[u8], i: usize, before: u32) -> u32
     ensures { result ≡ start_for before (content_of set.now i) }

@@ -4,7 +4,7 @@
 ghost use Rattle.std.specs.Prelude.{◌≡◌, map, ◌+◌, ◌*◌, ◌≤◌, length};
 ghost use Rattle.std.proofs.lemmas.List.Edits.{sets};
 ghost use Rattle.base.specs.Told.{Tells};
-ghost use Rattle.field.specs.Field.{words};
+ghost use Rattle.field.specs.Field.{le_bytes, words};
 ghost use Rattle.bundle.specs.Content.{bytes_in, size_in, content_of};
 ghost use Rattle.writer.specs.Writer.{data_of, starts_from, bundle_bytes, most_data};
 ghost use Rattle.tidied.specs.Tidy.{
@@ -18,11 +18,12 @@ ghost use Rattle.tidied.specs.Tidy.{
 
 use bundle::{Slot, SlotNumber, check_images, slot_at};
 use copy::copy_into;
-use field::Number;
+use field::put;
 use refusal::Refusal;
 use slot_sizes::{MOST, data_size, size_at, slot_count, start_at};
 
-// How long the tidy form of a set is.
+// How long the tidy form of a set is. In line in both callers: by a call it takes a third more of a set of few slots.
+#[inline(always)]
 #[tactic(auto, using(tidied::proofs::Laws::length_tidy, tidied::proofs::Laws::few_slots), unfolding(tidied::specs::Tidy::tidy_len_of))]
 pub fn tidy_len(set: &[u8]) -> Result<usize, Refusal>
     ensures { Tells tidied_told result (tidy_len_of set.now) }
@@ -36,6 +37,15 @@ pub fn tidy_len(set: &[u8]) -> Result<usize, Refusal>
     Ok(8 + 8 * n + size)
 }
 
+// Writes a number within the buffer.
+#[tactic(auto, unfolding(field::specs::Field::put_at))]
+fn store(to: &mut [u8], at: usize, v: u32)
+    requires { at + 4 ≤ length to.old }
+    ensures { to.new ≡ sets to.old at (le_bytes 4 v) }
+{
+    put(to, at, v).unwrap();
+}
+
 // Writes the starts of the first n slots.
 fn put_starts(to: &mut [u8], set: &[u8], n: usize)
     requires { (8 + 4 * n ≤ length to.old) × (length (data_of (first_contents set.now n)) ≤ most_data) }
@@ -43,9 +53,17 @@ fn put_starts(to: &mut [u8], set: &[u8], n: usize)
 {
     let mut sum: usize = 0;
     for i in 0..n {
-        start_at(set, i, sum as u32).store(to, 8 + 4 * i);
+        store(to, 8 + 4 * i, start_at(set, i, sum as u32));
         sum += size_at(set, i);
     }
+}
+
+// The length of slot i. Not in line, as `start_at` is not, lest the loop below become a `memset`.
+#[inline(never)]
+fn length_at(set: &[u8], i: usize) -> usize
+    ensures { result ≡ size_in (content_of set.now i) }
+{
+    size_at(set, i)
 }
 
 // Writes their lengths.
@@ -54,7 +72,7 @@ fn put_lengths(to: &mut [u8], at: usize, set: &[u8], n: usize)
     ensures { to.new ≡ sets to.old at (words (map size_in (first_contents set.now n))) }
 {
     for i in 0..n {
-        (size_at(set, i) as u32).store(to, at + 4 * i);
+        store(to, at + 4 * i, length_at(set, i) as u32);
     }
 }
 
@@ -91,8 +109,8 @@ fn put_form(to: &mut [u8], set: &[u8], n: usize, size: usize)
         × (n ≤ 64) }
     ensures { to.new ≡ sets to.old 0 (bundle_bytes (first_contents set.now n)) }
 {
-    (n as u32).store(to, 0);
-    (size as u32).store(to, 4);
+    store(to, 0, n as u32);
+    store(to, 4, size as u32);
     put_starts(to, set, n);
     put_lengths(to, 8 + 4 * n, set, n);
     put_data(to, 8 + 8 * n, set, n);

@@ -18,9 +18,11 @@ fn foreseen<W: Write>(to: &mut W, x: Result<Forecast, Refusal>) -> io::Result<()
 
 // f WIDTH TABLE NAMES
 pub(crate) fn of_table<W: Write>(to: &mut W, line: Line<'_>) -> io::Result<()> {
-    let table = line.bytes(2, 640)?;
-    let names = line.bytes(3, 640)?;
-    foreseen(to, forecast_table(&table, regions::width(line), &names))
+    let mut table = [0; 640];
+    let table = line.bytes(2, &mut table);
+    let mut names = [0; 640];
+    let names = line.bytes(3, &mut names);
+    foreseen(to, forecast_table(table, regions::width(line), names))
 }
 
 // An entry of zeros.
@@ -39,8 +41,10 @@ fn eight(table: &[u8], width: Width) -> [RamdumpTable64; 8] {
 
 // g WIDTH TABLE NAMES N: of the first N of eight entries, lent as a list.
 pub(crate) fn of_list<W: Write>(to: &mut W, line: Line<'_>) -> io::Result<()> {
-    let table = line.bytes(2, 640)?;
-    let names = line.bytes(3, 640)?;
-    let entries = eight(&table, regions::width(line));
-    foreseen(to, forecast_of(entries, line.index(4), &names))
+    let mut table = [0; 640];
+    let table = line.bytes(2, &mut table);
+    let mut names = [0; 640];
+    let names = line.bytes(3, &mut names);
+    let entries = eight(table, regions::width(line));
+    foreseen(to, forecast_of(entries, line.index(4), names))
 }

@@ -2,6 +2,8 @@
 // bytes in hexadecimal (`-` for none) and numbers in hexadecimal. A line that starts with `#` is written again.
 #![tactic(auto)]
 
+ghost use Rattle.std.specs.Prelude.{◌≤◌, length, IfOk};
+
 mod bundles;
 mod forecasts;
 mod packets;
@@ -9,7 +11,6 @@ mod regions;
 mod show;
 mod text;
 
-use std::alloc::Global;
 use std::io;
 use std::io::{Read, Write};
 use text::Line;
@@ -46,17 +47,38 @@ fn case<W: Write>(to: &mut W, line: Line<'_>) -> io::Result<()> {
     writeln!(to)
 }
 
-// The cases of the input, of which at most 524,288 bytes are read.
-fn cases<R: Read, W: Write>(from: &mut R, to: &mut W, alloc: Global) -> io::Result<()> {
-    let mut input = Vec::new(alloc);
-    from.take(524288).read_to_end(&mut input)?;
-    for line in input.split_inclusive(|b| *b == b'\n') {
+// Reads until the buffer is full or the input ends: how many bytes it put at the front. Each read is lent all the room that is left: where an input keeps
+// messages apart, the rest of one that is longer than the room of a read is lost, and the library's `read_to_end` begins with little.
+fn read_full<R: Read>(from: &mut R, buf: &mut [u8]) -> io::Result<usize>
+    ensures { IfOk result (λ n. n ≤ length buf.new) }
+{
+    let mut done = 0;
+    while done < buf.len() {
+        let n = from.read(&mut buf[done..])?;
+        if n == 0 {
+            break;
+        }
+        done += n;
+    }
+    Ok(done)
+}
+
+// The cases of the input, of which as much is read as the room takes.
+fn cases<R: Read, W: Write>(from: &mut R, to: &mut W, room: &mut [u8]) -> io::Result<()> {
+    let n = read_full(from, room)?;
+    for line in room[..n].split_inclusive(|b| *b == b'\n') {
         let text = line.strip_suffix(b"\n").unwrap_or(line);
-        case(to, Line { alloc, text })?;
+        case(to, Line { text })?;
     }
     to.flush()
 }
 
+// Room for the input. In a function of its own: the prover would count the zeros where they are lent.
+fn room() -> [u8; 524288] {
+    [0; 524288]
+}
+
 fn main(rt: HostRuntime) -> io::Result<()> {
-    cases(&mut rt.stdin(), &mut rt.stdout(), rt.alloc())
+    let mut room = room();
+    cases(&mut rt.stdin(), &mut rt.stdout(), &mut room)
 }

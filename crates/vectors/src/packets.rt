@@ -98,8 +98,9 @@ fn decoded<W: Write>(to: &mut W, d: Result<SaharaPacket, Refusal>) -> io::Result
 
 // d BYTES: the kind's number, the length field, the fields.
 pub(crate) fn decode<W: Write>(to: &mut W, line: Line<'_>) -> io::Result<()> {
-    let bytes = line.bytes(1, 1024)?;
-    decoded(to, sahara_parse_packet(&bytes))
+    let mut bytes = [0; 1024];
+    let bytes = line.bytes(1, &mut bytes);
+    decoded(to, sahara_parse_packet(bytes))
 }
 
 // l LENGTH
@@ -142,7 +143,8 @@ pub(crate) fn build_case<W: Write>(to: &mut W, line: Line<'_>) -> io::Result<()>
     let Some(request) = request(line) else {
         return show::nothing(to);
     };
-    let mut out = vec![in line.alloc; 0xAA; size]?;
-    built(to, build(&mut out, request))?;
-    write!(to, " {}", Hex(&out))
+    let mut out = [0xAA; 64];
+    let out = &mut out[..size];
+    built(to, build(out, request))?;
+    write!(to, " {}", Hex(out))
 }

@@ -13,8 +13,9 @@ use std::io::Write;
 
 // u BYTES
 pub(crate) fn utf8_valid<W: Write>(to: &mut W, line: Line<'_>) -> io::Result<()> {
-    let s = line.bytes(1, 1024)?;
-    show::flag(to, utf8::valid(&s))
+    let mut s = [0; 1024];
+    let s = line.bytes(1, &mut s);
+    show::flag(to, utf8::valid(s))
 }
 
 fn stem_of(name: &[u8]) -> &[u8] {
@@ -23,20 +24,23 @@ fn stem_of(name: &[u8]) -> &[u8] {
 
 // t NAME: the stem's bytes.
 pub(crate) fn stem<W: Write>(to: &mut W, line: Line<'_>) -> io::Result<()> {
-    let name = line.bytes(1, 1024)?;
-    write!(to, "{}", Hex(stem_of(&name)))
+    let mut name = [0; 1024];
+    let name = line.bytes(1, &mut name);
+    write!(to, "{}", Hex(stem_of(name)))
 }
 
 // o NAME
 pub(crate) fn opening<W: Write>(to: &mut W, line: Line<'_>) -> io::Result<()> {
-    let name = line.bytes(1, 1024)?;
-    show::checked(to, check_open(&name))
+    let mut name = [0; 1024];
+    let name = line.bytes(1, &mut name);
+    show::checked(to, check_open(name))
 }
 
 // p NAME
 pub(crate) fn opened<W: Write>(to: &mut W, line: Line<'_>) -> io::Result<()> {
-    let name = line.bytes(1, 1024)?;
-    show::checked(to, check_after_open(&name))
+    let mut name = [0; 1024];
+    let name = line.bytes(1, &mut name);
+    show::checked(to, check_after_open(name))
 }
 
 fn entry<W: Write>(to: &mut W, e: RamdumpTable64) -> io::Result<()> {
@@ -58,33 +62,40 @@ pub(crate) fn width(line: Line<'_>) -> Width {
 
 // e WIDTH TABLE INDEX
 pub(crate) fn decode_entry<W: Write>(to: &mut W, line: Line<'_>) -> io::Result<()> {
-    let table = line.bytes(2, 1024)?;
-    entry_or_none(to, entry_at(&table, width(line), line.index(3)))
+    let mut table = [0; 1024];
+    let table = line.bytes(2, &mut table);
+    entry_or_none(to, entry_at(table, width(line), line.index(3)))
 }
 
 // x WIDTH TABLE INDEX NAMES
 pub(crate) fn selected<W: Write>(to: &mut W, line: Line<'_>) -> io::Result<()> {
-    let table = line.bytes(2, 1024)?;
-    let names = line.bytes(4, 1024)?;
-    show::flag(to, is_selected(&table, width(line), line.index(3), &names))
+    let mut table = [0; 1024];
+    let table = line.bytes(2, &mut table);
+    let mut names = [0; 1024];
+    let names = line.bytes(4, &mut names);
+    show::flag(to, is_selected(table, width(line), line.index(3), names))
 }
 
 // y WIDTH TABLE ENTRIES NAMES FROM
 pub(crate) fn next<W: Write>(to: &mut W, line: Line<'_>) -> io::Result<()> {
-    let table = line.bytes(2, 1024)?;
-    let names = line.bytes(4, 1024)?;
-    let next = next_selected(&table, width(line), line.index(3), &names, line.index(5));
+    let mut table = [0; 1024];
+    let table = line.bytes(2, &mut table);
+    let mut names = [0; 1024];
+    let names = line.bytes(4, &mut names);
+    let next = next_selected(table, width(line), line.index(3), names, line.index(5));
     write!(to, "{next}")
 }
 
 // r WIDTH TABLE SIZE: the region sheet on a page of SIZE bytes of 0xAA, and the whole page afterwards.
 pub(crate) fn sheet<W: Write>(to: &mut W, line: Line<'_>) -> io::Result<()> {
-    let table = line.bytes(2, 1024)?;
+    let mut table = [0; 1024];
+    let table = line.bytes(2, &mut table);
     let size = line.index(3);
     if 1024 < size {
         return show::nothing(to);
     }
-    let mut page = vec![in line.alloc; 0xAA; size]?;
-    show::made(to, region_sheet(&table, width(line), &mut page))?;
-    write!(to, " {}", Hex(&page))
+    let mut page = [0xAA; 1024];
+    let page = &mut page[..size];
+    show::made(to, region_sheet(table, width(line), page))?;
+    write!(to, " {}", Hex(page))
 }

@@ -1,11 +1,8 @@
 // A line of words with one space between two of them: a word is bytes or a number, in hexadecimal.
 ghost use Rattle.std.specs.Prelude.{◌<◌};
 
-use std::alloc::{AllocError, Global};
-
 #[derive(Clone, Copy)]
 pub(crate) struct Line<'a> {
-    pub(crate) alloc: Global,
     pub(crate) text: &'a [u8],
 }
 
@@ -26,14 +23,15 @@ impl<'a> Line<'a> {
         self.text.split(|b| *b == b' ').nth(k).unwrap_or(b"")
     }
 
-    // The bytes that word k writes, two digits a byte, at most so many. `-` writes none.
-    pub(crate) fn bytes(self, k: usize, most: usize) -> Result<Vec<u8>, AllocError> {
+    // The bytes that word k writes, two digits a byte, put into a room, as many as it takes. `-` writes none. (A room, and no `Vec`: a program that asks for
+    // no heap is not refused any.)
+    pub(crate) fn bytes<'b>(self, k: usize, room: &'b mut [u8]) -> &'b [u8] {
         let (pairs, _) = self.word(k).as_chunks::<2>();
-        pairs
-            .iter()
-            .take(most)
-            .map(|[high, low]| 16 * digit(*high) + digit(*low))
-            .collect(self.alloc)
+        let n = pairs.len().min(room.len());
+        for (place, [high, low]) in room.iter_mut().zip(pairs) {
+            *place = 16 * digit(*high) + digit(*low);
+        }
+        &room[..n]
     }
 
     // The number of word k, its last 64 bits.

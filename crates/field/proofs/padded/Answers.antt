@@ -30,4 +30,4 @@ copy_from_slice-requires g c =
 pub returns : goal.returns
 returns g c =
     let n = g.T.Number in
-    c.load.ensures ∙ ap n.of (with_zeros n.SIZE _ _ _ _ _ c.min.ensures c.copy_from_slice.ensures.after)
+    c.of_bytes.ensures ∙ ap n.of (with_zeros n.SIZE _ _ _ _ _ c.min.ensures c.copy_from_slice.ensures.after)

@@ -6,14 +6,14 @@ use Rattle.base.proofs.Telling.{tells}
 use Rattle.refusal.specs.declared.Refusal.{Refusal}
 use Rattle.entry.specs.declared.RamdumpTable64.{RamdumpTable64}
 use Rattle.forecast_sums.specs.Forecast.{forecast_of, forecast_chunk as chunk, forecast_told}
-use Rattle.forecast_sums.specs.Sums.{added, add_all}
+use Rattle.forecast_sums.specs.Sums.{add_of, add_all}
 use Rattle.forecast_sums.specs.declared.Forecast.{Forecast}
 use Rattle.forecast_sums.proofs.Laws.{sums_are, stays}
 use Rattle.forecast.proofs.forecast.Goals as goal
 
 -- of the entries from i on, the first is added and the rest are left
 one_added : (names : List ℕ) (es : List RamdumpTable64) (i : ℕ) (e : RamdumpTable64) (s : Result Forecast Refusal) → i < length es
-    → add_all chunk names (added chunk names s (get_or es i e)) (drop (i + 1) es) ≡ add_all chunk names s (drop i es)
+    → add_all chunk names (add_of chunk names s (get_or es i e)) (drop (i + 1) es) ≡ add_all chunk names s (drop i es)
 unfolding add_all
 one_added names es i e s h = rw (add-one i, drop-cons es i e h) refl
 

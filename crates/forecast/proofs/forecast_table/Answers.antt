@@ -44,8 +44,8 @@ returns-in_err-sums-2 c =
     let p = err_from_is_err_and c.from_residual-in_err-sums-2.result c.from_residual-in_err-sums-2.ensures.1 in
     let x : c.unwrap-e.result ≡ entry_in f t l.i = (entry_told f t l.i (sym c.entry_at.ensures ∙ c.unwrap-e.ensures)).1 in
     let w = c.in_err-sums-2.was in
-    let e : more_of chunk l.sums (entry_in f t l.i).len ≡ Err c.in_err-sums-2.field-0.0 =
-    ap (λ (y : RamdumpTable64). more_of chunk l.sums y.len) (sym x) ∙ sym c.more.ensures ∙ w in
+    let e : more_of chunk (Ok l.sums) (entry_in f t l.i).len ≡ Err c.in_err-sums-2.field-0.0 =
+    ap (λ (y : RamdumpTable64). more_of chunk (Ok l.sums) y.len) (sym x) ∙ sym c.more.ensures ∙ w in
     let q : forecast_of chunk (entries_of f t) names ≡ Err c.in_err-sums-2.field-0.0 =
     sym (sums_are chunk names (entries_of f t) (rw (length_entries f t (entries_in f (length t)) 0) (omega (arith, c.entries_in-n.ensures))))
     ∙ refused chunk names f t n l.i l.sums _ _ (omega (arith, c.entries_in-n.ensures)) c.loop-i-test.true l.invariant e in
@@ -60,7 +60,7 @@ loop-i-preserved c =
     let n : ℕ = c.entries_in-n.result in
     let x : c.unwrap-e.result ≡ entry_in f t l.i = (entry_told f t l.i (sym c.entry_at.ensures ∙ c.unwrap-e.ensures)).1 in
     let w = c.in_ok-sums-2.was in
-    let e : more_of chunk l.sums (entry_in f t l.i).len ≡ Ok c.in_ok-sums-2.sums =
-    ap (λ (y : RamdumpTable64). more_of chunk l.sums y.len) (sym x) ∙ sym c.more.ensures ∙ w in
+    let e : more_of chunk (Ok l.sums) (entry_in f t l.i).len ≡ Ok c.in_ok-sums-2.sums =
+    ap (λ (y : RamdumpTable64). more_of chunk (Ok l.sums) y.len) (sym x) ∙ sym c.more.ensures ∙ w in
     goes_on chunk a.names.now f t n l.i _ l.sums c.in_ok-sums-2.sums _ (omega (arith, c.entries_in-n.ensures)) c.loop-i-test.true l.invariant e
     c.next_selected-i-in-loop-i.ensures

@@ -15,21 +15,21 @@ pub loop-i-init : goal.loop-i-init
 unfolding fields first_contents
 loop-i-init c = refl
 
-pub overflow_cast-size_at : goal.overflow_cast-size_at
-overflow_cast-size_at c =
+pub overflow_cast-length_at : goal.overflow_cast-length_at
+overflow_cast-length_at c =
     let l = c.loop-i in
     let a = c.args in
-    omega (arith, c.size_at.ensures, data_up_to a.set.now l.i a.n (omega arith))
+    omega (arith, c.length_at.ensures, data_up_to a.set.now l.i a.n (omega arith))
 
 pub loop-i-preserved : goal.loop-i-preserved
 loop-i-preserved c =
     let l = c.loop-i in
     let a = c.args in
     let B : List ℕ = a.set.now in
-    let x : c.store.new.d ≡ sets l.to (a.at + 4 * l.i) (le_bytes 4 c.size_at.result) = c.store.ensures in
-    let y : c.store.new.d ≡ sets a.to.now a.at (words (map size_in (first_contents B (suc l.i)))) =
+    let x : c.store.new.to ≡ sets l.to (a.at + 4 * l.i) (le_bytes 4 c.length_at.result) = c.store.ensures in
+    let y : c.store.new.to ≡ sets a.to.now a.at (words (map size_in (first_contents B (suc l.i)))) =
     x
-    ∙ ap (λ (k : ℕ). sets l.to (a.at + 4 * l.i) (le_bytes 4 k)) c.size_at.ensures
+    ∙ ap (λ (k : ℕ). sets l.to (a.at + 4 * l.i) (le_bytes 4 k)) c.length_at.ensures
     ∙ ap (λ (d : List ℕ). sets d (a.at + 4 * l.i) (le_bytes 4 (size_in (content_of B l.i)))) l.invariant
     ∙ sym (lengths_stored B a.to.now a.at l.i) in
     rw add-one y

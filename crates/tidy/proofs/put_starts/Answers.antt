@@ -28,12 +28,12 @@ loop-i-preserved c =
     let l = c.loop-i in
     let a = c.args in
     let B : List ℕ = a.set.now in
-    let x : c.store.new.d ≡ sets l.to (8 + 4 * l.i) (le_bytes 4 c.start_at.result) = c.store.ensures in
+    let x : c.store.new.to ≡ sets l.to (8 + 4 * l.i) (le_bytes 4 c.start_at.result) = c.store.ensures in
     let v : c.start_at.result ≡ start_for (length (data_of (first_contents B l.i))) (content_of B l.i) =
     c.start_at.ensures ∙ ap (λ (k : ℕ). start_for k (content_of B l.i)) l.invariant.0 in
     let e : l.sum + c.size_at-sum.result ≡ length (data_of (first_contents B (suc l.i))) =
     omega (arith, c.size_at-sum.ensures, l.invariant.0, data_grows B l.i) in
-    let y : c.store.new.d ≡ sets a.to.now 8 (words (starts_from 0 (first_contents B (suc l.i)))) =
+    let y : c.store.new.to ≡ sets a.to.now 8 (words (starts_from 0 (first_contents B (suc l.i)))) =
     x
     ∙ ap (λ (k : ℕ). sets l.to (8 + 4 * l.i) (le_bytes 4 k)) v
     ∙ ap
