@@ -9,7 +9,11 @@ use lib.ListN.{length, get_or}
 use Rattle.base.proofs.Ranges.{by_test, by_then}
 use Rattle.field.specs.Field.{field_size}
 use Rattle.command.specs.Command.{mode_number}
+use Rattle.refusal.specs.declared.Refusal.{Refusal}
+use Rattle.refusal.specs.Refusal.{refusal_number}
 use Rattle.refusal.proofs.Laws.{refusal_back}
+use Rattle.verdict.specs.declared.Finish.{Finish}
+use Rattle.verdict.specs.Verdict.{finish_number}
 use Rattle.verdict.proofs.Telling.{finish_back}
 use Rattle.verdict.specs.declared.Opening.{Opening}
 use Rattle.session.specs.declared.Phase.{Phase}
@@ -35,7 +39,6 @@ use Rattle.raw.specs.Raw.{
   told_of,
   stepped_at,
   raw_stepped,
-  refused_raw,
 }
 use Rattle.raw.proofs.Laws.{opening_back, session_is}
 use Rattle.raw_step.specs.RawStep.{raw_outcome_of, no_session, step_raw}
@@ -63,9 +66,61 @@ answer_back (A.Close i) = refl
 answer_back (A.Finished how r) = rw (finish_back how) refl
 answer_back (A.Refused why) = rw (refusal_back why) refl
 
--- what is told of an answer is
+-- a refusal's number is one of 1 to 29, an end's one of 1 to 4
+refusal_within : (why : Refusal) → (1 ≤ refusal_number why) × (refusal_number why ≤ 29)
+refusal_within Refusal.ImageSet = (omega arith, omega arith)
+refusal_within Refusal.NameList = (omega arith, omega arith)
+refusal_within Refusal.OutBuffer = (omega arith, omega arith)
+refusal_within Refusal.Ended = (omega arith, omega arith)
+refusal_within Refusal.PacketLength = (omega arith, omega arith)
+refusal_within Refusal.Unknown = (omega arith, omega arith)
+refusal_within Refusal.Xml = (omega arith, omega arith)
+refusal_within Refusal.NotImplemented = (omega arith, omega arith)
+refusal_within Refusal.Body = (omega arith, omega arith)
+refusal_within Refusal.HostPacket = (omega arith, omega arith)
+refusal_within Refusal.KindLength = (omega arith, omega arith)
+refusal_within Refusal.NoImage = (omega arith, omega arith)
+refusal_within Refusal.ImageEnd = (omega arith, omega arith)
+refusal_within Refusal.ImageStatus = (omega arith, omega arith)
+refusal_within Refusal.NoCommand = (omega arith, omega arith)
+refusal_within Refusal.ResponseLength = (omega arith, omega arith)
+refusal_within Refusal.TableLength = (omega arith, omega arith)
+refusal_within Refusal.Limit = (omega arith, omega arith)
+refusal_within Refusal.FilenameEnd = (omega arith, omega arith)
+refusal_within Refusal.Filename = (omega arith, omega arith)
+refusal_within Refusal.FilenameBytes = (omega arith, omega arith)
+refusal_within Refusal.RegionEnd = (omega arith, omega arith)
+refusal_within Refusal.Closed = (omega arith, omega arith)
+refusal_within Refusal.RegionEnd32 = (omega arith, omega arith)
+refusal_within Refusal.SheetPage = (omega arith, omega arith)
+refusal_within Refusal.ForecastNames = (omega arith, omega arith)
+refusal_within Refusal.ForecastSum = (omega arith, omega arith)
+refusal_within Refusal.TidySet = (omega arith, omega arith)
+refusal_within Refusal.TidyRoom = (omega arith, omega arith)
+
+finish_within : (how : Finish) → (1 ≤ finish_number how) × (finish_number how ≤ 4)
+finish_within Finish.ImagesSent = (omega arith, omega arith)
+finish_within Finish.Reset = (omega arith, omega arith)
+finish_within Finish.Dumped = (omega arith, omega arith)
+finish_within Finish.Reply = (omega arith, omega arith)
+
+-- so what is told of an answer is all within
+told_first : (a : Answer)
+    → (answer_number a ≡ 8 → (1 ≤ get_or (answer_values a) 0 0) × (get_or (answer_values a) 0 0 ≤ 29))
+    × (answer_number a ≡ 7 → (1 ≤ get_or (answer_values a) 0 0) × (get_or (answer_values a) 0 0 ≤ 4))
+told_first A.Go = (λ e. absurd (omega arith), λ e. absurd (omega arith))
+told_first (A.Send k) = (λ e. absurd (omega arith), λ e. absurd (omega arith))
+told_first (A.Image x k) = (λ e. absurd (omega arith), λ e. absurd (omega arith))
+told_first (A.Open i) = (λ e. absurd (omega arith), λ e. absurd (omega arith))
+told_first (A.Bytes k) = (λ e. absurd (omega arith), λ e. absurd (omega arith))
+told_first A.EmptyRead = (λ e. absurd (omega arith), λ e. absurd (omega arith))
+told_first (A.Close i) = (λ e. absurd (omega arith), λ e. absurd (omega arith))
+told_first (A.Finished how r) = (λ e. absurd (omega arith), λ e. finish_within how)
+told_first (A.Refused why) = (λ e. refusal_within why, λ e. absurd (omega arith))
+
+-- and read back
 told_back : (s : RawSession) (k : ℕ) (a : Answer) → ReadsBack (stepped_at s (told_of k a))
-told_back s k a = rw (answer_back a) (refl, refl, refl)
+told_back s k a = rw (answer_back a) (refl, refl, refl, (told_first a).0, (told_first a).1)
 
 -- an opening's numbers name it
 names_opening : (u : Opening) → is_opening (mode_number u.mode) (exec_number u.command) (backend_number u.backend) ≡ true
@@ -88,7 +143,7 @@ pub call_is : (c : Call) (r : RawSession) (d set names t y o : List ℕ) → cal
 call_is by_value r d set names t y o = refl
 call_is in_place r d set names t y o = refl
 
--- of any numbers, a session's or not, by either call: no two answers cross as the same numbers, and no other numbers cross
+-- of any numbers, a session's or not, by either call: what crosses is the numbers of the answer that is read back
 pub reads_back : (c : Call) (r : RawSession) (d set names t y o : List ℕ) → ReadsBack (called_of c r d set names t y o).stepped
 unfolding step_raw raw_stepped
 reads_back c r d set names t y o =

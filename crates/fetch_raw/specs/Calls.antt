@@ -1,7 +1,8 @@
 -- The C interface as a host: its states are a session's numbers as they cross, it is opened by `worgesli_open`, and each step is a call of `worgesli_step` or
 -- of `worgesli_step_in_place`, mixed as one likes. What a call gives is what its contract says (worgesli/src), an equation to `step_raw`; an answer is read
--- back from its number and values, and no other number is read as it (`reads_back` of proofs/Theorem). Demand 3 of this host is `fetch_raw` there.
-use Rattle.std.specs.Prelude.{ℕ, suc, ◌≡◌, ◌×◌, List, [], ◌∷◌, get_or, eqb}
+-- back from its number and values, and no call gives a number that is read as another's (`reads_back` of proofs/Theorem). Demand 3 of this host is
+-- `fetch_raw` there.
+use Rattle.std.specs.Prelude.{ℕ, suc, ◌≡◌, ◌≤◌, List, [], ◌∷◌, get_or, eqb}
 use Rattle.base.specs.Choice.{pick}
 use Rattle.field.specs.declared.Width.{Width}
 use Rattle.command.specs.Command.{mode_number}
@@ -29,12 +30,13 @@ answer_of n first second =
     (pick (eqb n 6) (A.Close first)
     (pick (eqb n 7) (A.Finished (finish_of first) second) (A.Refused (refusal_of first)))))))))
 
--- number and values are just those of the answer that they are read back as: a number that is no refusal's, or no end's, is read as another's, and then
--- this is false
+-- number and values are just those of the answer that they are read back as, of a refusal 1 to 29, of an end 1 to 4: any other number is read as another's,
+-- and then this is false
 abbrev pub ReadsBack : RawStepped → Type 0
 ReadsBack r =
     let a = answer_of r.answer r.first r.second in
     (r.answer ≡ answer_number a) × (r.first ≡ get_or (answer_values a) 0 0) × (r.second ≡ get_or (answer_values a) 1 0)
+    × (r.answer ≡ 8 → (1 ≤ r.first) × (r.first ≤ 29)) × (r.answer ≡ 7 → (1 ≤ r.first) × (r.first ≤ 4))
 
 -- `worgesli_step`, `worgesli_step_in_place`
 pub data Call : Type 0 where

@@ -25,8 +25,8 @@ struct Parts<'a> {
     feed: &'a [u8],
 }
 
-// What steps write to, as much as a case may ask for. They are made once: a case that brings no bytes for them leaves them as they are. Arrays, and no
-// `Vec`: a program that asks for no heap is not refused any.
+// What steps write to, as much as a case may ask for. They are made once, and a case that is as opened leaves them as they are. Arrays: a program without
+// a heap cannot be out of one.
 #[derive(Drop)]
 struct Buffers {
     table: [u8; 65536],
@@ -299,8 +299,8 @@ fn replay<W: Write>(
     told_session(to, last)
 }
 
-// Reads until the buffer is full or the input ends: how many bytes it put at the front. Each read is lent all the room that is left: where an input keeps
-// messages apart, the rest of one that is longer than the room of a read is lost, and the library's `read_to_end` begins with little.
+// Reads until the buffer is full or the input ends: how many bytes it put at the front. Each read is lent all the room that is left: of an input that keeps
+// messages apart, one that is longer than the room of its read loses its rest, and the library's `read_to_end` begins with little room.
 fn read_full<R: Read>(from: &mut R, buf: &mut [u8]) -> io::Result<usize>
     ensures { IfOk result (λ n. n ≤ length buf.new) }
 {

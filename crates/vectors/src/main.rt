@@ -47,8 +47,8 @@ fn case<W: Write>(to: &mut W, line: Line<'_>) -> io::Result<()> {
     writeln!(to)
 }
 
-// Reads until the buffer is full or the input ends: how many bytes it put at the front. Each read is lent all the room that is left: where an input keeps
-// messages apart, the rest of one that is longer than the room of a read is lost, and the library's `read_to_end` begins with little.
+// Reads until the buffer is full or the input ends: how many bytes it put at the front. Each read is lent all the room that is left: of an input that keeps
+// messages apart, one that is longer than the room of its read loses its rest, and the library's `read_to_end` begins with little room.
 fn read_full<R: Read>(from: &mut R, buf: &mut [u8]) -> io::Result<usize>
     ensures { IfOk result (λ n. n ≤ length buf.new) }
 {

@@ -23,8 +23,7 @@ impl<'a> Line<'a> {
         self.text.split(|b| *b == b' ').nth(k).unwrap_or(b"")
     }
 
-    // The bytes that word k writes, two digits a byte, put into a room, as many as it takes. `-` writes none. (A room, and no `Vec`: a program that asks for
-    // no heap is not refused any.)
+    // The bytes that word k writes, two digits a byte, put into a room, as many as it takes. `-` writes none. (A program without a heap cannot be out of one.)
     pub(crate) fn bytes<'b>(self, k: usize, room: &'b mut [u8]) -> &'b [u8] {
         let (pairs, _) = self.word(k).as_chunks::<2>();
         let n = pairs.len().min(room.len());

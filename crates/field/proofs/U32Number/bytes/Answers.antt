@@ -1,5 +1,5 @@
 -- `u32`'s `bytes` meets its contract: the library's four, and zeros. Assumes nothing.
-use Rattle.std.proofs.Common.{◌≡◌, ℕ, List, [], ◌∷◌, ◌++◌, refl, ap}
+use Rattle.std.proofs.Common.{ℕ, List, [], ◌∷◌, ◌++◌, ap}
 use Rattle.field.proofs.Laws.{bytes_are}
 use Rattle.field.proofs.U32Number.bytes.Goals as goal
 

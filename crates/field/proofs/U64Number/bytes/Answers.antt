@@ -1,5 +1,5 @@
 -- `u64`'s `bytes` meets its contract: the library's eight. Assumes nothing.
-use Rattle.std.proofs.Common.{◌≡◌, sym, ◌∙◌}
+use Rattle.std.proofs.Common.{sym, ◌∙◌}
 use mathlib.Core.List.{append-nil}
 use Rattle.field.specs.Field.{le_bytes}
 use Rattle.field.proofs.Laws.{bytes_are}
