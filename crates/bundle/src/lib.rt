@@ -20,7 +20,6 @@ ghost use Rattle.bundle.specs.Bundle.{
   slot_told,
 };
 
-use field::field_at;
 use refusal::Refusal;
 
 // A slot's number in a bundle. It is no image ID: only the one-image rule (crate image) makes one of the other.
@@ -35,13 +34,13 @@ pub enum Slot {
     Missing,
 }
 
-// A number that lies within the bytes.
-#[tactic(auto, unfolding(field::specs::Field::field_at))]
+// A number that lies within the bytes: read without a test of that, which every check of a set would pay.
+#[tactic(auto, using(field::proofs::Laws::le4))]
 fn number(b: &[u8], at: usize) -> usize
     requires { at + 4 ≤ length b.now }
     ensures { (result ≡ le 4 (drop at b.now)) × (result < 4294967296) }
 {
-    field_at::<u32>(b, at).unwrap() as usize
+    u32::from_le_bytes([b[at], b[at + 1], b[at + 2], b[at + 3]]) as usize
 }
 
 // The mark of an absent slot.

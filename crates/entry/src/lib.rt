@@ -5,7 +5,7 @@ ghost use Rattle.std.specs.Prelude.{◌≡◌, ◌+◌, ◌≤◌, length, take,
 ghost use Rattle.field.specs.Field.{le, field_size};
 ghost use Rattle.entry.specs.Entry.{entry_size, entries_in, decoded, entry_at};
 
-use field::{Width, field_at, field_size};
+use field::{Width, field_size};
 
 // An entry; the numbers of 32 bits are widened.
 #[derive(Clone, Copy)]
@@ -37,15 +37,29 @@ pub fn entries_in(width: Width, k: usize) -> usize
     }
 }
 
-// The number at a place, which lies within the table.
-#[tactic(auto, unfolding(field::specs::Field::field_at))]
+// The number at a place, which lies within the table: read without a test of that, which a search would pay for each entry.
+#[tactic(auto, using(field::proofs::Laws::le4, field::proofs::Laws::le8))]
 fn number_at(table: &[u8], width: Width, at: usize) -> u64
     requires { at + field_size width ≤ length table.now }
     ensures { result ≡ le (field_size width) (drop at table.now) }
 {
     match width {
-        Width::Bits32 => u64::from(field_at::<u32>(table, at).unwrap()),
-        Width::Bits64 => field_at::<u64>(table, at).unwrap(),
+        Width::Bits32 => u64::from(u32::from_le_bytes([
+            table[at],
+            table[at + 1],
+            table[at + 2],
+            table[at + 3],
+        ])),
+        Width::Bits64 => u64::from_le_bytes([
+            table[at],
+            table[at + 1],
+            table[at + 2],
+            table[at + 3],
+            table[at + 4],
+            table[at + 5],
+            table[at + 6],
+            table[at + 7],
+        ]),
     }
 }
 
