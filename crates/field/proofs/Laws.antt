@@ -189,10 +189,14 @@ pub bytes_are : (k v : ℕ) → bytes_low_first 0 k v ≡ le_bytes k v
 bytes_are k v = bytes_from k 0 v ∙ ap (le_bytes k) (omega (arith, pow-zero 256))
 
 -- a part of d replaced by the bytes of a number is the number stored
-pub number_stored : (at k v : ℕ) (d : List ℕ) → at + k ≤ length d → sets d at (le_bytes k v) ≡ put_mid at (at + k - at) d (le_bytes k v)
-number_stored at k v d h =
+pub bytes_stored : (at k v : ℕ) (d : List ℕ) → at + k ≤ length d → sets d at (le_bytes k v) ≡ put_mid at (at + k - at) d (le_bytes k v)
+bytes_stored at k v d h =
     let m : at + k - at ≡ k = omega arith in
     rw (m, sets-eq (le_bytes k v) d at (rw length_le_bytes h), length_le_bytes, drop-drop k at d) (append_assoc (take at d) (le_bytes k v) (drop (at + k) d))
+
+-- so it is of the bytes that the library gives
+pub number_stored : (at k v : ℕ) (d : List ℕ) → at + k ≤ length d → sets d at (le_bytes k v) ≡ put_mid at (at + k - at) d (bytes_low_first 0 k v)
+number_stored at k v d h = bytes_stored at k v d h ∙ ap (put_mid at (at + k - at) d) (sym (bytes_are k v))
 
 -- from a place on, a place past the end being the end
 pub from_place : (at m : ℕ) (s : List ℕ) → m ≡ min at (length s) → take (length s - m) (drop m s) ≡ drop at s

@@ -26,6 +26,27 @@ pub trait Number: Copy {
     fn bytes(self) -> [u8; 8]
         ensures { result ≡ le_bytes SIZE (value self) ++ replicate (8 - SIZE) 0 };
 
+    // The number whose bytes lie at a place, the least first; a byte that is not there is 0.
+    fn load(s: &[u8], at: usize) -> Self
+        ensures { result ≡ of (le SIZE (drop at s.now)) }
+    {
+        let there = &s[at.min(s.len())..];
+        let n = Self::SIZE.min(there.len());
+        let mut bytes = [0; 8];
+        bytes[..n].copy_from_slice(&there[..n]);
+        Self::of_bytes(bytes)
+    }
+
+    // Its bytes, stored at a place; one that does not lie within is left out.
+    fn store(self, d: &mut [u8], at: usize)
+        ensures { d.new ≡ sets d.old at (le_bytes SIZE (value self)) }
+    {
+        let from = at.min(d.len());
+        let n = Self::SIZE.min(d.len() - from);
+        let bytes = self.bytes();
+        d[from..from + n].copy_from_slice(&bytes[..n]);
+    }
+
     ghost most: { SIZE ≤ 8 };
 }
 

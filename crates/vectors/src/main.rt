@@ -82,3 +82,29 @@ fn main(rt: HostRuntime) -> io::Result<()> {
     let mut room = room();
     cases(&mut rt.stdin(), &mut rt.stdout(), &mut room)
 }
+
+#[cfg(test)]
+mod tests {
+    use field::Number;
+
+    // No case calls these: a byte that is not there is read as 0, and one that does not lie within is not stored.
+    #[test]
+    fn numbers_at_places(rt: HostRuntime) {
+        let s = [0xFF, 0x04, 0x03, 0x02, 0x01, 0, 0, 0, 0x80, 0xEE];
+        assert_eq!(rt; u32::load(&s, 1), 0x01020304);
+        assert_eq!(rt; u64::load(&s, 1), 0x8000000001020304);
+        assert_eq!(rt; u32::load(&s, 8), 0xEE80);
+        assert_eq!(rt; u64::load(&s, 10), 0);
+        assert_eq!(rt; u32::load(&s, usize::MAX), 0);
+        let mut d = [0xAA; 10];
+        0x01020304u32.store(&mut d, 1);
+        assert_eq!(rt; d, [0xAA, 4, 3, 2, 1, 0xAA, 0xAA, 0xAA, 0xAA, 0xAA]);
+        0x0102030405060708u64.store(&mut d, 2);
+        assert_eq!(rt; d, [0xAA, 4, 8, 7, 6, 5, 4, 3, 2, 1]);
+        0x01020304u32.store(&mut d, 8);
+        assert_eq!(rt; d, [0xAA, 4, 8, 7, 6, 5, 4, 3, 4, 3]);
+        0x01020304u32.store(&mut d, 10);
+        0x01020304u32.store(&mut d, usize::MAX);
+        assert_eq!(rt; d, [0xAA, 4, 8, 7, 6, 5, 4, 3, 4, 3]);
+    }
+}

@@ -4,7 +4,7 @@ use Rattle.std.proofs.Math.Seq.{take-append_seam}
 use Rattle.std.proofs.lemmas.List.Edits.{sets}
 use borrow.Rule.Slice.PartMut.{put_mid}
 use Rattle.field.specs.Field.{le_bytes}
-use Rattle.field.proofs.Laws.{length_le_bytes, number_stored}
+use Rattle.field.proofs.Laws.{length_le_bytes, bytes_stored}
 use Rattle.field.proofs.store.Goals as goal
 
 -- the first w of a number's bytes with others behind them
@@ -15,7 +15,7 @@ bytes_put : (w v at k : ℕ) (d b e : List ℕ) → k ≡ w → at + k ≤ lengt
     → put_mid at (at + k - at) d e ≡ sets d at (le_bytes w v)
 bytes_put w v at k d b e p h q r =
     let m : e ≡ le_bytes w v = r ∙ rw (p, q) (its_own w v _) in
-    rw (m, p) (sym (number_stored at w v d (omega (arith, p, h))))
+    rw (m, p) (sym (bytes_stored at w v d (omega (arith, p, h))))
 
 pub returns : goal.returns
 returns g c =
